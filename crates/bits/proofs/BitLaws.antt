@@ -1,0 +1,273 @@
+-- Laws of bit j of a number. `bit` is 0 or 1, so that each law is an equation that omega reads; `has` is the same as yes or no.
+use mathlib.Core.Path.{_≡_, refl, sym, ap, _∙_}
+use mathlib.Core.Bool.{Bool, true, false, cond, not, _&&_, _||_}
+use Prim.Native.Nat.{ℕ, zero, suc, _+_, _-_, _*_, _/_, _%_, _^_, _≤_, _<_, min, max}
+use native.Mathlib.Decide.{ℕ-discrete}
+use native.Mathlib.Nat.{mod-lt, zero-lt-suc, pow-suc, not-suc-le-zero, div-one, one-mul, zero-add}
+use native.Mathlib.Numerals.{one-add}
+use native.Mathlib.Omega.{arith, by-contra}
+use lib.Arith.{lt-one}
+use lib.Bits.{bitAnd, bitOr, and-shr, or-shr, and-step, or-step, and-le-l}
+use lib.Count.{ones, ones-step, trailingZeros, under}
+use lib.Dec.{lit<, eqb}
+use lib.Pow.{shr-shr, pow-pos, shl-exact, shr-le}
+use borrow.Author.Tests.{eqb-true, eqb-false, eq-eqb, ne-eqb}
+use Rattle.bits.specs.Bit.{bit, has, withBit}
+use Rattle.bits.specs.Sets.{lowest, countTo}
+use Rattle.bits.proofs.Truth.{alike, and-true, true-and, never}
+use Rattle.bits.proofs.SetLaws.{Lowest, lowest-at, count-add, count-same}
+
+-- a bit as a number and as yes or no
+bit-lt : (w j : ℕ) → bit w j < 2
+unfolding bit
+bit-lt w j = mod-lt (w / 2 ^ j) (zero-lt-suc 1)
+
+has-one : (w j : ℕ) → has w j ≡ true → bit w j ≡ 1
+unfolding bit has
+has-one w j h = eqb-true (w / 2 ^ j % 2) 1 h
+
+one-has : (w j : ℕ) → bit w j ≡ 1 → has w j ≡ true
+unfolding bit has
+one-has w j h = eq-eqb (w / 2 ^ j % 2) 1 h
+
+not-has : (w j : ℕ) → bit w j ≡ 0 → has w j ≡ false
+unfolding bit has
+not-has w j h = ne-eqb (w / 2 ^ j % 2) 1 (λ e. omega arith)
+
+has-not : (w j : ℕ) → has w j ≡ false → bit w j ≡ 0
+has-not w j h = by-lt (bit w j) refl (bit-lt w j)
+  where
+    by-lt : (b : ℕ) → bit w j ≡ b → b < 2 → b ≡ 0
+    by-lt zero e l = refl
+    by-lt (suc zero) e l = never (one-has w j e) h
+    by-lt (suc (suc b)) e l = absurd (omega arith)
+
+-- the lowest bit, and the bits above it
+bit-zero : (w : ℕ) → bit w 0 ≡ w % 2
+unfolding bit
+bit-zero w = ap (λ (x : ℕ). x % 2) (div-one w)
+
+bit-suc : (w j : ℕ) → bit w (suc j) ≡ bit (w / 2) j
+unfolding bit
+bit-suc w j = ap (λ (x : ℕ). x % 2) (ap (λ (k : ℕ). w / 2 ^ k) (sym (one-add j)) ∙ sym (shr-shr w 1 j))
+
+bit-shr : (w i j : ℕ) → bit (w / 2 ^ i) j ≡ bit w (i + j)
+unfolding bit
+bit-shr w i j = ap (λ (x : ℕ). x % 2) (shr-shr w i j)
+
+bit-of-zero : (j : ℕ) → bit 0 j ≡ 0
+bit-of-zero zero = bit-zero 0
+bit-of-zero (suc j) = bit-suc 0 j ∙ bit-of-zero j
+
+pub has-zero : (j : ℕ) → has 0 j ≡ false
+has-zero j = not-has 0 j (bit-of-zero j)
+
+bit-high : (k a j : ℕ) → a < 2 ^ k → k ≤ j → bit a j ≡ 0
+bit-high zero a j h l = ap (λ (x : ℕ). bit x j) (lt-one h) ∙ bit-of-zero j
+bit-high (suc k) a zero h l = absurd (not-suc-le-zero l)
+bit-high (suc k) a (suc j) h l = bit-suc a j ∙ bit-high k (a / 2) j (omega (arith, pow-suc 2 k)) (omega arith)
+
+-- a word of k bits has none from k on
+pub has-high : (k a j : ℕ) → a < 2 ^ k → k ≤ j → has a j ≡ false
+has-high k a j h l = not-has a j (bit-high k a j h l)
+
+-- and, or, not
+bit-and : (a b j : ℕ) → bit (bitAnd a b) j ≡ min (bit a j) (bit b j)
+unfolding bit
+bit-and a b j = rw and-shr (omega (arith, and-step (a / 2 ^ j) (b / 2 ^ j)))
+
+bit-or : (a b j : ℕ) → bit (bitOr a b) j ≡ max (bit a j) (bit b j)
+unfolding bit
+bit-or a b j = rw or-shr (omega (arith, or-step (a / 2 ^ j) (b / 2 ^ j)))
+
+bit-not : (k a j : ℕ) → a < 2 ^ k → j < k → bit ((2 ^ k - 1) - a) j ≡ 1 - bit a j
+bit-not zero a j h l = absurd (not-suc-le-zero l)
+bit-not (suc k) a zero h l = simp bit-zero (omega (arith, pow-suc 2 k, pow-pos k))
+bit-not (suc k) a (suc j) h l =
+    simp bit-suc
+    (ap (λ (x : ℕ). bit x j) half ∙ bit-not k (a / 2) j (omega (arith, pow-suc 2 k)) (omega arith))
+  where
+    half : ((2 ^ suc k - 1) - a) / 2 ≡ (2 ^ k - 1) - a / 2
+    half = omega (arith, pow-suc 2 k, pow-pos k)
+
+-- the answers of `has` follow those of `bit` through any of the three
+by-bits : (w j : ℕ) (t : Bool) → (t ≡ true → bit w j ≡ 1) → (t ≡ false → bit w j ≡ 0) → has w j ≡ t
+by-bits w j true f g = one-has w j (f refl)
+by-bits w j false f g = not-has w j (g refl)
+
+bit-has : (w j : ℕ) → bit w j ≡ cond (has w j) 1 0
+bit-has w j = go (has w j) refl
+  where
+    go : (t : Bool) → has w j ≡ t → bit w j ≡ cond t 1 0
+    go true e = has-one w j e
+    go false e = has-not w j e
+
+pub has-and : (a b j : ℕ) → has (bitAnd a b) j ≡ (has a j && has b j)
+has-and a b j = go (has a j) (has b j) (bit-has a j) (bit-has b j)
+  where
+    go : (p q : Bool) → bit a j ≡ cond p 1 0 → bit b j ≡ cond q 1 0 → has (bitAnd a b) j ≡ (p && q)
+    go true true e f = one-has (bitAnd a b) j (omega (arith, bit-and a b j))
+    go true false e f = not-has (bitAnd a b) j (omega (arith, bit-and a b j))
+    go false q e f = not-has (bitAnd a b) j (omega (arith, bit-and a b j))
+
+pub has-or : (a b j : ℕ) → has (bitOr a b) j ≡ (has a j || has b j)
+has-or a b j = go (has a j) (has b j) (bit-has a j) (bit-has b j)
+  where
+    go : (p q : Bool) → bit a j ≡ cond p 1 0 → bit b j ≡ cond q 1 0 → has (bitOr a b) j ≡ (p || q)
+    go true q e f = one-has (bitOr a b) j (omega (arith, bit-or a b j, bit-lt b j))
+    go false true e f = one-has (bitOr a b) j (omega (arith, bit-or a b j))
+    go false false e f = not-has (bitOr a b) j (omega (arith, bit-or a b j))
+
+pub has-not-word : (k a j : ℕ) → a < 2 ^ k → j < k → has ((2 ^ k - 1) - a) j ≡ not (has a j)
+has-not-word k a j h l = go (has a j) (bit-has a j)
+  where
+    go : (p : Bool) → bit a j ≡ cond p 1 0 → has ((2 ^ k - 1) - a) j ≡ not p
+    go true e = not-has ((2 ^ k - 1) - a) j (omega (arith, bit-not k a j h l))
+    go false e = one-has ((2 ^ k - 1) - a) j (omega (arith, bit-not k a j h l))
+
+-- words that are equal by their bits
+bit-ext : (k a b : ℕ) → a < 2 ^ k → b < 2 ^ k → ((j : ℕ) → j < k → bit a j ≡ bit b j) → a ≡ b
+bit-ext zero a b ha hb e = lt-one ha ∙ sym (lt-one hb)
+bit-ext (suc k) a b ha hb e =
+    let low : a % 2 ≡ b % 2 = sym (bit-zero a) ∙ e 0 (omega arith) ∙ bit-zero b in
+    let rest : a / 2 ≡ b / 2 =
+    bit-ext k (a / 2) (b / 2) (omega (arith, pow-suc 2 k)) (omega (arith, pow-suc 2 k))
+    (λ j l. sym (bit-suc a j) ∙ e (suc j) (omega arith) ∙ bit-suc b j) in
+    omega arith
+
+pub has-ext : (k a b : ℕ) → a < 2 ^ k → b < 2 ^ k → ((j : ℕ) → j < k → has a j ≡ has b j) → a ≡ b
+has-ext k a b ha hb e =
+    bit-ext k a b ha hb (λ j l. bit-has a j ∙ ap (λ (t : Bool). cond t 1 0) (e j l) ∙ sym (bit-has b j))
+
+-- a word with no bit is 0, and one that is not 0 has a bit
+pub has-none : (k a : ℕ) → a < 2 ^ k → ((j : ℕ) → j < k → has a j ≡ false) → a ≡ 0
+has-none k a h e = has-ext k a 0 h (pow-pos k) (λ j l. e j l ∙ sym (has-zero j))
+
+-- a power of two has one bit
+bit-pow : (k j : ℕ) → has (2 ^ k) j ≡ eqb k j
+bit-pow k j = go (ℕ-discrete k j)
+  where
+    half : (i : ℕ) → 2 ^ suc i / 2 ≡ 2 ^ i
+    half i = omega (arith, pow-suc 2 i)
+    same : (i : ℕ) → bit (2 ^ i) i ≡ 1
+    same zero = bit-zero 1
+    same (suc i) = bit-suc (2 ^ suc i) i ∙ ap (λ (x : ℕ). bit x i) (half i) ∙ same i
+    other : (i l : ℕ) → (i ≡ l → ⊥) → bit (2 ^ i) l ≡ 0
+    other zero zero n = absurd (n refl)
+    other zero (suc l) n = bit-suc 1 l ∙ bit-of-zero l
+    other (suc i) zero n = bit-zero (2 ^ suc i) ∙ omega (arith, pow-suc 2 i)
+    other (suc i) (suc l) n = bit-suc (2 ^ suc i) l ∙ ap (λ (x : ℕ). bit x l) (half i) ∙ other i l (λ e. n (ap suc e))
+    go : Dec (k ≡ j) → has (2 ^ k) j ≡ eqb k j
+    go (yes e) = rw e (one-has (2 ^ j) j (same j) ∙ sym (eq-eqb j j refl))
+    go (no n) = not-has (2 ^ k) j (other k j n) ∙ sym (ne-eqb k j n)
+
+-- the word with bit j set has that bit and those that it had
+pub has-with : (w j i : ℕ) → has (withBit w j) i ≡ (has w i || eqb j i)
+unfolding withBit
+has-with w j i = has-or w (2 ^ j) i ∙ ap (λ (t : Bool). has w i || t) (bit-pow j i)
+
+-- the word with bit j alone, as `1 << j` computes it
+pub one-shl : (j : ℕ) → j < 64 → (1 * 2 ^ j) % 2 ^ 64 ≡ 2 ^ j
+one-shl j h = shl-exact {a = 1} 1 j 64 (lit< tt) (omega arith) ∙ one-mul (2 ^ j)
+
+-- x & y, and x & !y: what it is for them to be 0
+pub meets-none : (k x y : ℕ) → bitAnd x y ≡ 0 → (j : ℕ) → (has x j && has y j) ≡ false
+meets-none k x y e j = sym (has-and x y j) ∙ ap (λ (w : ℕ). has w j) e ∙ has-zero j
+
+pub none-meets : (k x y : ℕ) → x < 2 ^ k → ((j : ℕ) → j < k → (has x j && has y j) ≡ false) → bitAnd x y ≡ 0
+none-meets k x y h f =
+    has-none k (bitAnd x y) (omega (arith, and-le-l x y)) (λ j l. has-and x y j ∙ f j l)
+
+-- x & !y is 0 exactly when y has every bit of x
+pub contained : (k x y : ℕ) → x < 2 ^ k → y < 2 ^ k → bitAnd x ((2 ^ k - 1) - y) ≡ 0 → (j : ℕ) → j < k → has x j ≡ true → has y j ≡ true
+contained k x y hx hy e j l h = go (has y j) refl (meets-none k x ((2 ^ k - 1) - y) e j)
+  where
+    go : (t : Bool) → has y j ≡ t → (has x j && has ((2 ^ k - 1) - y) j) ≡ false → t ≡ true
+    go true g z = refl
+    go false g z = never (true-and (has x j) (has ((2 ^ k - 1) - y) j) h (has-not-word k y j hy l ∙ ap not g)) z
+
+pub contains : (k x y : ℕ) → x < 2 ^ k → y < 2 ^ k → ((j : ℕ) → j < k → has x j ≡ true → has y j ≡ true) → bitAnd x ((2 ^ k - 1) - y) ≡ 0
+contains k x y hx hy f = none-meets k x ((2 ^ k - 1) - y) hx (λ j l. go j l (has x j) refl)
+  where
+    go : (j : ℕ) → j < k → (t : Bool) → has x j ≡ t → (t && has ((2 ^ k - 1) - y) j) ≡ false
+    go j l true e = has-not-word k y j hy l ∙ ap not (f j l e)
+    go j l false e = refl
+
+-- the lowest set bit, by trailing zeros
+under-lt : (d t k : ℕ) → (d ≡ 0 → t < k) → under d t < suc k
+under-lt zero t k h = omega (arith, h refl)
+under-lt (suc d) t k h = omega arith
+
+tz-at : (k a : ℕ) → a < 2 ^ k → (a ≡ 0 → ⊥) → bit a (trailingZeros k a) ≡ 1
+unfolding trailingZeros
+tz-at zero a h n = absurd (n (lt-one h))
+tz-at (suc k) a h n =
+    under-at (a % 2) (trailingZeros k (a / 2)) refl
+    (λ e. tz-at k (a / 2) (omega (arith, pow-suc 2 k)) (λ z. n (omega arith)))
+  where
+    under-at : (d t : ℕ) → a % 2 ≡ d → (d ≡ 0 → bit (a / 2) t ≡ 1) → bit a (under d t) ≡ 1
+    under-at zero t e h = bit-suc a t ∙ h refl
+    under-at (suc d) t e h = bit-zero a ∙ omega arith
+
+tz-below : (k a j : ℕ) → j < trailingZeros k a → bit a j ≡ 0
+unfolding trailingZeros
+tz-below zero a j l = absurd (not-suc-le-zero l)
+tz-below (suc k) a j l = go (a % 2) (trailingZeros k (a / 2)) j refl (λ i h. tz-below k (a / 2) i h) l
+  where
+    go : (d t i : ℕ) → a % 2 ≡ d → ((i : ℕ) → i < t → bit (a / 2) i ≡ 0) → i < under d t → bit a i ≡ 0
+    go zero t zero e ih l = bit-zero a ∙ e
+    go zero t (suc i) e ih l = bit-suc a i ∙ ih i (omega arith)
+    go (suc d) t i e ih l = absurd (not-suc-le-zero l)
+
+-- in the word shifted down by y, the lowest set bit is the lowest from y on
+module _ (w y : ℕ) (hw : w < 2 ^ 64) (hy : y < 64) where
+  shifted : (i : ℕ) → y ≤ i → bit w i ≡ bit (w / 2 ^ y) (i - y)
+  shifted i l =
+      let e : y + (i - y) ≡ i = omega arith in
+      ap (bit w) (sym e) ∙ sym (bit-shr w y (i - y))
+
+  pub next-none : w / 2 ^ y ≡ 0 → Lowest (has w) y (64 - y) 64
+  next-none e = record {
+    from = omega arith;
+    within = omega arith;
+    none = λ i l h. not-has w i (shifted i l ∙ ap (λ (x : ℕ). bit x (i - y)) e ∙ bit-of-zero (i - y));
+    found = λ h. absurd (omega arith)
+  }
+
+  pub next-found : (w / 2 ^ y ≡ 0 → ⊥) → Lowest (has w) y (64 - y) (y + trailingZeros 64 (w / 2 ^ y))
+  next-found n =
+      let t : ℕ = trailingZeros 64 (w / 2 ^ y) in
+      let one : bit w (y + t) ≡ 1 = sym (bit-shr w y t) ∙ tz-at 64 (w / 2 ^ y) (omega (arith, shr-le w y)) n in
+      let in-word : suc (y + t) ≤ 64 =
+      by-contra (suc (y + t)) 64 (λ l. omega (arith, one, bit-high 64 w (y + t) hw (omega arith))) in
+      record {
+        from = omega arith;
+        within = omega arith;
+        none = λ i l h. not-has w i (shifted i l ∙ tz-below 64 (w / 2 ^ y) (i - y) (omega arith));
+        found = λ h. one-has w (y + t) one
+      }
+
+-- the count of set bits
+pub ones-count : (k a : ℕ) → a < 2 ^ k → ones a ≡ countTo (has a) k
+unfolding countTo ones
+ones-count zero a h = ap ones (lt-one h)
+ones-count (suc k) a h =
+    let one : suc k ≡ 1 + k = omega arith in
+    let low : countTo (has a) 1 ≡ a % 2 = rw zero-add first in
+    omega
+    (
+        arith,
+        ones-step a,
+        ones-count k (a / 2) (omega (arith, pow-suc 2 k)),
+        ap (countTo (has a)) one,
+        count-add (has a) 1 k,
+        count-same (λ j. has a (1 + j)) (has (a / 2)) k (λ j l. shift j)
+    )
+  where
+    first : cond (has a 0) 1 0 ≡ a % 2
+    first = sym (bit-has a 0) ∙ bit-zero a
+    shift : (j : ℕ) → has a (1 + j) ≡ has (a / 2) j
+    shift j = by-bits a (1 + j) (has (a / 2) j) (λ e. next j ∙ has-one (a / 2) j e) (λ e. next j ∙ has-not (a / 2) j e)
+      where
+        next : (j : ℕ) → bit a (1 + j) ≡ bit (a / 2) j
+        next j = ap (bit a) (one-add j) ∙ bit-suc a j

@@ -1,0 +1,163 @@
+-- Laws of the search, the count and the tests over sets of numbers.
+use mathlib.Core.Path.{_≡_, refl, sym, ap, _∙_}
+use mathlib.Core.Bool.{Bool, true, false, cond, not, _&&_, _||_}
+use Prim.Native.Nat.{ℕ, zero, suc, _+_, _-_, _≤_, _<_}
+use native.Mathlib.Decide.{ℕ-discrete, decLt}
+use native.Mathlib.Nat.{add-zero, add-suc}
+use native.Mathlib.Omega.{arith}
+use Rattle.bits.specs.Sets.{lowest, countTo, every, some}
+use Rattle.bits.proofs.Truth.{and-true, and-false, or-elim, or-left, or-right, never}
+
+-- r is the lowest of the c numbers from i on that is in p, or i + c
+pub record Lowest (p : ℕ → Bool) (i c r : ℕ) : Type 0 where
+  pub from : i ≤ r
+  pub within : r ≤ i + c
+  pub none : (j : ℕ) → i ≤ j → j < r → p j ≡ false
+  pub found : r < i + c → p r ≡ true
+
+module _ (p : ℕ → Bool) where
+  -- THE SEARCH FINDS THE LOWEST, and only that is the lowest
+  pub lowest-is : (i c : ℕ) → Lowest p i c (lowest p i c)
+  unfolding lowest
+  lowest-is i zero = record {
+    from = omega arith;
+    within = omega arith;
+    none = λ j h l. absurd (omega arith);
+    found = λ h. absurd (omega arith)
+  }
+  lowest-is i (suc c) = go (p i) refl (lowest-is (i + 1) c)
+    where
+      go : (t : Bool) → p i ≡ t → Lowest p (i + 1) c (lowest p (i + 1) c) → Lowest p i (suc c) (cond t i (lowest p (i + 1) c))
+      go true e rest = record {
+        from = omega arith;
+        within = omega arith;
+        none = λ j h l. absurd (omega arith);
+        found = λ _. e
+      }
+      go false e rest =
+          let f = rest .from in
+          let w = rest .within in
+          record {
+            from = omega arith;
+            within = omega arith;
+            none = λ j h l. here j l (ℕ-discrete i j) h;
+            found = λ h. rest .found (omega arith)
+          }
+        where
+          here : (j : ℕ) → j < lowest p (i + 1) c → Dec (i ≡ j) → i ≤ j → p j ≡ false
+          here j l (yes q) h = ap p (sym q) ∙ e
+          here j l (no q) h = rest .none j (omega arith) l
+
+  pub lowest-only : {i c r s : ℕ} → Lowest p i c r → Lowest p i c s → r ≡ s
+  lowest-only {i} {c} {r} {s} a b = go (decLt r s) (decLt s r)
+    where
+      go : Dec (r < s) → Dec (s < r) → r ≡ s
+      go (yes l) d = let w = b .within in never (a .found (omega arith)) (b .none r (a .from) l)
+      go (no l) (yes k) = let w = a .within in never (b .found (omega arith)) (a .none s (b .from) k)
+      go (no l) (no k) = omega arith
+
+  pub lowest-at : {i c r : ℕ} → Lowest p i c r → r ≡ lowest p i c
+  lowest-at {i} {c} a = lowest-only a (lowest-is i c)
+
+  -- a search that has come past some numbers goes on as it began
+  pub lowest-on : (i k : ℕ) → i < k → p i ≡ false → lowest p i (k - i) ≡ lowest p (i + 1) (k - (i + 1))
+  unfolding lowest
+  lowest-on i k h e = let g : k - i ≡ suc (k - (i + 1)) = omega arith in rw (g, e)
+
+  pub lowest-here : (i k : ℕ) → i < k → p i ≡ true → lowest p i (k - i) ≡ i
+  unfolding lowest
+  lowest-here i k h e = let g : k - i ≡ suc (k - (i + 1)) = omega arith in rw (g, e)
+
+  pub lowest-end : (i k : ℕ) → k ≤ i → lowest p i (k - i) ≡ i
+  unfolding lowest
+  lowest-end i k h = let g : k - i ≡ 0 = omega arith in rw g
+
+  -- nothing below the end is in p exactly when the search comes to the end
+  pub lowest-none : (i c : ℕ) → lowest p i c ≡ i + c → (j : ℕ) → i ≤ j → j < i + c → p j ≡ false
+  lowest-none i c e j h l = lowest-is i c .none j h (omega arith)
+
+  pub none-lowest : (i c : ℕ) → ((j : ℕ) → i ≤ j → j < i + c → p j ≡ false) → lowest p i c ≡ i + c
+  none-lowest i c f = sym (lowest-at (record {
+    from = omega arith;
+    within = omega arith;
+    none = f;
+    found = λ h. absurd (omega arith)
+  }))
+
+  -- the tests
+  pub every-true : (c : ℕ) → every c p ≡ true → (i : ℕ) → i < c → p i ≡ true
+  unfolding every
+  every-true zero h i l = absurd (omega arith)
+  every-true (suc c) h i l = go (ℕ-discrete i c) (and-true (every c p) (p c) h) (every-true c)
+    where
+      go : Dec (i ≡ c) → (every c p ≡ true) × (p c ≡ true) → (every c p ≡ true → (j : ℕ) → j < c → p j ≡ true) → p i ≡ true
+      go (yes e) both rest = ap p e ∙ both .1
+      go (no e) both rest = rest (both .0) i (omega arith)
+
+  pub true-every : (c : ℕ) → ((i : ℕ) → i < c → p i ≡ true) → every c p ≡ true
+  unfolding every
+  true-every zero h = refl
+  true-every (suc c) h = rw (true-every c (λ i l. h i (omega arith)), h c (omega arith))
+
+  pub every-false : (c i : ℕ) → i < c → p i ≡ false → every c p ≡ false
+  unfolding every
+  every-false zero i l h = absurd (omega arith)
+  every-false (suc c) i l h = go (ℕ-discrete i c) (λ k. every-false c i k h)
+    where
+      go : Dec (i ≡ c) → (i < c → every c p ≡ false) → (every c p && p c) ≡ false
+      go (yes e) rest = and-false (every c p) (p c) (ap p (sym e) ∙ h)
+      go (no e) rest = rw (rest (omega arith))
+
+  pub some-true : (c : ℕ) → some c p ≡ true → (i : ℕ) × (i < c) × (p i ≡ true)
+  unfolding some
+  some-true zero h = never {a = false} h refl
+  some-true (suc c) h =
+      or-elim {C = (i : ℕ) × (i < suc c) × (p i ≡ true)} (some c p) (p c) h
+      (λ e. let r = some-true c e in let l = r .1 in (r .0, omega arith, r .2))
+      (λ e. (c, omega arith, e))
+
+  pub true-some : (c i : ℕ) → i < c → p i ≡ true → some c p ≡ true
+  unfolding some
+  true-some zero i l h = absurd (omega arith)
+  true-some (suc c) i l h = go (ℕ-discrete i c) (λ k. true-some c i k h)
+    where
+      go : Dec (i ≡ c) → (i < c → some c p ≡ true) → (some c p || p c) ≡ true
+      go (yes e) rest = or-right (some c p) (p c) (ap p (sym e) ∙ h)
+      go (no e) rest = or-left (some c p) (p c) (rest (omega arith))
+
+  pub some-false : (c : ℕ) → ((i : ℕ) → i < c → p i ≡ false) → some c p ≡ false
+  unfolding some
+  some-false zero h = refl
+  some-false (suc c) h = rw (some-false c (λ i l. h i (omega arith)), h c (omega arith))
+
+  -- the count of numbers from a on goes on from the count below a
+  pub count-add : (a b : ℕ) → countTo p (a + b) ≡ countTo p a + countTo (λ j. p (a + j)) b
+  unfolding countTo
+  count-add a zero = rw add-zero (omega arith)
+  count-add a (suc b) = rw add-suc (omega (arith, count-add a b))
+
+pub count-same : (p q : ℕ → Bool) (c : ℕ) → ((j : ℕ) → j < c → p j ≡ q j) → countTo p c ≡ countTo q c
+unfolding countTo
+count-same p q zero h = refl
+count-same p q (suc c) h = rw (count-same p q c (λ j l. h j (omega arith)), h c (omega arith))
+
+pub lowest-same : (p q : ℕ → Bool) (i c : ℕ) → ((j : ℕ) → i ≤ j → j < i + c → p j ≡ q j) → lowest p i c ≡ lowest q i c
+lowest-same p q i c h =
+    let l = lowest-is p i c in
+    let w = l .within in
+    lowest-at q
+    (record {
+      from = l .from;
+      within = l .within;
+      none = λ j g k. sym (h j g (omega arith)) ∙ l .none j g k;
+      found = λ k. sym (h (lowest p i c) (l .from) k) ∙ l .found k
+    })
+
+pub count-le : (p : ℕ → Bool) (c : ℕ) → countTo p c ≤ c
+unfolding countTo
+count-le p zero = omega arith
+count-le p (suc c) = go (p c) (count-le p c)
+  where
+    go : (t : Bool) → countTo p c ≤ c → countTo p c + cond t 1 0 ≤ suc c
+    go true h = omega arith
+    go false h = omega arith

@@ -1,0 +1,15 @@
+-- `bits::test_bit` meets its contract.
+use borrow.Author.Needs.{needs}
+use Rattle.bits.specs.Bit.{has}
+use Rattle.bits.proofs.test_bit.Statement.{statement}
+use Rattle.bits.proofs.test_bit.Tie as tie
+
+shr-result : tie.Need-shr-result
+shr-result c = search needs
+
+returns : tie.Need-returns
+unfolding has
+returns c = search needs
+
+pub test-bit-spec : {M : Type 1} → statement M
+test-bit-spec = tie.close (tie.spec shr-result returns)

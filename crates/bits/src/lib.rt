@@ -1,0 +1,40 @@
+// Bits of a 64-bit word. Callers go by the laws of proofs/BitLaws.antt and never unfold `has`.
+ghost use mathlib.Core.Path.{_≡_};
+ghost use Prim.Native.Nat.{_-_, _%_};
+ghost use Rattle.bits.specs.Bit.{has, withBit};
+ghost use Rattle.bits.specs.Sets.{lowest, countTo};
+
+// Is bit j mod 64 of w set?
+pub fn test_bit(w: u64, j: usize) -> bool
+    ensures { λ r. ⌜ r ≡ has w (j % 64) ⌝ }
+{
+    (w >> (j % 64)) % 2 == 1
+}
+
+// w with bit j mod 64 set.
+pub fn with_bit(w: u64, j: usize) -> u64
+    ensures { λ r. ⌜ r ≡ withBit w (j % 64) ⌝ }
+{
+    w | (1 << (j % 64))
+}
+
+// The lowest set bit of w from bit j on; 64, or j itself past that, where there is none.
+pub fn next_bit(w: u64, j: usize) -> usize
+    ensures { λ r. ⌜ r ≡ lowest (has w) j (64 - j) ⌝ }
+{
+    if 64 <= j {
+        return j;
+    }
+    let rest = w >> j;
+    if rest == 0 {
+        return 64;
+    }
+    j + u64::trailing_zeros(rest) as usize
+}
+
+// How many bits of w are set.
+pub fn count_bits(w: u64) -> u32
+    ensures { λ r. ⌜ r ≡ countTo (has w) 64 ⌝ }
+{
+    u64::count_ones(w)
+}

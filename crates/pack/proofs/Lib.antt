@@ -1,0 +1,8 @@
+-- The laws, for the callers' proofs: what the bytes say, what the checks show, what the rules derive.
+pub mod Parts
+pub mod RecordLaws
+pub mod PackLaws
+pub mod MarkLaws
+pub mod QuestionLaws
+pub mod Soundness
+pub mod Promises

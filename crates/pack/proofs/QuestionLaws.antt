@@ -1,0 +1,47 @@
+-- Laws of the question check: a question that is counted has a good pack, marks that fit and a goal below n.
+use mathlib.Core.Path.{_≡_, refl}
+use mathlib.Core.Bool.{Bool, true, false, cond, _&&_}
+use mathlib.Core.List.{List}
+use Prim.Native.Nat.{ℕ, _<_}
+use native.Mathlib.Omega.{arith}
+use lib.Dec.{ltb}
+use borrow.Author.Tests.{ltb-true}
+use Rattle.bits.proofs.Truth.{and-true}
+use Rattle.pack.specs.declared.check.Refusal.the-variants.{Marks, Goal}
+use Rattle.pack.specs.declared.check.Checked.{Checked}
+use Rattle.pack.specs.declared.check.Checked.the-variants.{Refused, Count}
+use Rattle.pack.specs.Marks.{marksFit}
+use Rattle.pack.specs.Pack.{checkPack}
+use Rattle.pack.specs.Question.{goalFits, checkCounted, afterPack, checkQuestion}
+use Rattle.pack.proofs.PackLaws.{Accepted, counted}
+use Rattle.pack.proofs.MarkLaws.{Fit, fit}
+
+pub record Asked (n m : ℕ) (s ws : List ℕ) (a b k : ℕ) : Type 0 where
+  pub pack : Accepted n m s k
+  pub marks : Fit ws k
+  pub goalA : a < n
+  pub goalB : b < n
+
+-- A QUESTION THAT IS TAKEN keeps every rule of numbers 1 to 5
+pub asked : (n m : ℕ) (s ws : List ℕ) (a b : ℕ) {k : ℕ} → checkQuestion n m s ws a b ≡ Count k → Asked n m s ws a b k
+unfolding checkQuestion
+asked n m s ws a b {k} = after (checkPack n m s) refl
+  where
+    goal : (j : ℕ) → checkPack n m s ≡ Count j → marksFit ws j ≡ true → (t : Bool) → goalFits n a b ≡ t → cond t (Count j) (Refused Goal) ≡ Count k → Asked n m s ws a b k
+    goal j e f true g h =
+        let same : j ≡ k = cc in
+        let p = and-true (ltb a n) (ltb b n) g in
+        rw (← same)
+        (record {
+          pack = counted n m s e;
+          marks = fit ws f;
+          goalA = ltb-true a n (p .0);
+          goalB = ltb-true b n (p .1)
+        })
+    goal j e f false g h = let z : _≡_ {A = ℕ} 0 1 = cc in absurd (omega arith)
+    counts : (j : ℕ) → checkPack n m s ≡ Count j → (t : Bool) → marksFit ws j ≡ t → cond t (cond (goalFits n a b) (Count j) (Refused Goal)) (Refused Marks) ≡ Count k → Asked n m s ws a b k
+    counts j e true f h = goal j e f (goalFits n a b) refl h
+    counts j e false f h = let z : _≡_ {A = ℕ} 0 1 = cc in absurd (omega arith)
+    after : (r : Checked) → checkPack n m s ≡ r → afterPack r n ws a b ≡ Count k → Asked n m s ws a b k
+    after (Refused why) e h = let z : _≡_ {A = ℕ} 0 1 = cc in absurd (omega arith)
+    after (Count j) e h = counts j e (marksFit ws j) refl h

@@ -1,0 +1,57 @@
+-- Laws of records and lines: a record that keeps its rules has a valid line; a counted pack is a list of valid lines.
+use mathlib.Core.Path.{_≡_, refl, sym, ap, _∙_}
+use mathlib.Core.Bool.{Bool, true, false, cond, _&&_}
+use mathlib.Core.List.{List}
+use Prim.Native.Nat.{ℕ, zero, suc, _+_, _≤_, _<_}
+use native.Mathlib.Nat.{zero-add}
+use native.Mathlib.Omega.{arith}
+use lib.Dec.{eqb, ltb}
+use lib.ListN.{length, getD}
+use borrow.Author.Tests.{ltb-true}
+use Rattle.bits.proofs.Truth.{and-true, never}
+use Rattle.pack.specs.declared.line.Line.{Line}
+use Rattle.pack.specs.declared.line.Line.the-variants.{Under, BothUnder, UnderSome, SomeUnder, RoleUnder, ChainUnder, NoLine}
+use Rattle.pack.specs.World.{lineAt}
+use Rattle.pack.specs.Bytes.{part}
+use Rattle.pack.specs.Record.{lineOf, lineIn, keeps, keepsIn, keepsAt, lineAtPlace, recordCount, linesOf, ValidLine, Valid}
+use Rattle.pack.proofs.Parts.{listed-length, listed-at}
+
+-- the lines of a pack are those of its records
+pub lines-length : (s : List ℕ) → length (linesOf s) ≡ recordCount s
+unfolding linesOf
+lines-length s = listed-length (lineAtPlace s) (recordCount s) 0
+
+pub lines-at : (s : List ℕ) (i : ℕ) → i < recordCount s → lineAt (linesOf s) i ≡ lineAtPlace s i
+unfolding linesOf lineAt
+lines-at s i h = listed-at (lineAtPlace s) NoLine (recordCount s) 0 i h ∙ ap (lineAtPlace s) (zero-add i)
+
+two : {x a y b : ℕ} {t : Bool} → (ltb x a && ltb y b && t) ≡ true → (x < a) × (y < b) × (t ≡ true)
+two {x} {a} {y} {b} {t} h =
+    let p = and-true (ltb x a && ltb y b) t h in
+    let q = and-true (ltb x a) (ltb y b) (p .0) in
+    (ltb-true x a (q .0), ltb-true y b (q .1), p .1)
+
+three : {x a y b z c : ℕ} → (ltb x a && ltb y b && ltb z c) ≡ true → (x < a) × (y < b) × (z < c)
+three {x} {a} {y} {b} {z} {c} h = let p = two h in (p .0, p .1, ltb-true z c (p .2))
+
+-- the kinds, one after the other: each line of the rules against the same line of the reading
+case : (P : Line → Type 0) (t : Bool) {k k′ : Bool} {l l′ : Line} → (k ≡ true → P l) → (k′ ≡ true → P l′) → cond t k k′ ≡ true → P (cond t l l′)
+case P true f g h = f h
+case P false f g h = g h
+
+pub keeps-valid : (n m kind a b c : ℕ) → keeps n m kind a b c ≡ true → ValidLine n m (lineOf kind a b c)
+keeps-valid n m kind a b c =
+    case (ValidLine n m) (eqb kind 1) {l = Under a b} (λ h. let p = two h in (p .0, p .1))
+    (case (ValidLine n m) (eqb kind 2) {l = BothUnder a b c} three
+    (case (ValidLine n m) (eqb kind 3) {l = UnderSome a b c} three
+    (case (ValidLine n m) (eqb kind 4) {l = SomeUnder a b c} three
+    (case (ValidLine n m) (eqb kind 5) {l = RoleUnder a b} (λ h. let p = two h in (p .0, p .1))
+    (case (ValidLine n m) (eqb kind 6) {l = ChainUnder a b c} {l′ = NoLine} three (λ h. never h refl))))))
+
+-- the lines of a pack whose records all keep the rules are valid
+pub lines-valid : (n m : ℕ) (s : List ℕ) → ((i : ℕ) → i < recordCount s → keepsAt n m s i ≡ true) → Valid n m (linesOf s)
+unfolding keepsIn lineIn
+lines-valid n m s all i h =
+    let l : i < recordCount s = omega (arith, lines-length s) in
+    let p = part s i in
+    rw (lines-at s i l) (keeps-valid n m (getD p 0 0) (getD p 1 0) (getD p 2 0) (getD p 3 0) (all i l))

@@ -1,0 +1,85 @@
+use Rattle.pack.proofs.Parts.{cut, fill-on, fill-end}
+use Rattle.pack.specs.Bytes.{wordsIn, wordIn, part, listed}
+use lib.ListN.{length, take, length-take, length-drop, length-set}
+use native.Mathlib.Omega.{arith}
+use mathlib.Core.List.{_++_}
+use mathlib.Core.Path.{_≡_, refl, _∙_}
+use Prim.Native.Nat.{_≤_, _-_}
+-- `pack::bytes::read_marks` meets its contract: word by word.
+use Rattle.pack.proofs.bytes.read_marks.Statement.{statement}
+use Rattle.pack.proofs.bytes.read_marks.Tie as tie
+use Rattle.pack.proofs.bytes.read_marks.Reads as reads
+use Rattle.pack.proofs.bytes.read_marks.Lts as lts
+use Rattle.pack.proofs.bytes.read_word.Reads as read-word-reads
+
+abbrev Inv-loop : tie.InvT-loop
+Inv-loop s words₀ j₀ words j = (j ≤ 16) × (length words ≡ 16) × (take j words ≡ listed j 0 (λ i. wordIn (part s i)))
+
+abbrev μ-loop : tie.MeasureT-loop
+μ-loop s words₀ j₀ words j = 16 - j
+
+loop-holds : tie.Need-loop-holds Inv-loop μ-loop
+unfolding listed
+loop-holds c = (omega arith, refl, refl)
+
+mul-at : tie.Need-mul-at Inv-loop μ-loop
+mul-at c = omega arith
+
+add-end : tie.Need-add-end Inv-loop μ-loop
+add-end c = omega arith
+
+sub-read-word : tie.Need-sub-read-word Inv-loop μ-loop
+sub-read-word c = omega arith
+
+part-read-word-start : tie.Need-part-read-word-start Inv-loop μ-loop
+part-read-word-start c = omega arith
+
+part-read-word-end : tie.Need-part-read-word-end Inv-loop μ-loop
+part-read-word-end c = omega arith
+
+read-word-requires : tie.Need-read-word-requires Inv-loop μ-loop
+read-word-requires c κs = simp (length-take, length-drop) (omega arith)
+
+mul-words : tie.Need-mul-words Inv-loop μ-loop
+mul-words c = omega arith
+
+array-write-words : tie.Need-array-write-words Inv-loop μ-loop
+array-write-words c = omega arith
+
+add-j : tie.Need-add-j Inv-loop μ-loop
+add-j c = omega arith
+
+loop-less : tie.Need-loop-less Inv-loop μ-loop
+loop-less c = omega arith
+
+loop-again : tie.Need-loop-again Inv-loop μ-loop
+loop-again c =
+    let l = c .before .before .before .loop .inv in
+    (omega arith, simp length-set (l .1), fill-on _ _ _ _ (omega arith) (l .2) (rw cut at (c .read-word .ensures)))
+
+returns : tie.Need-returns Inv-loop μ-loop
+unfolding wordsIn
+returns c =
+    let l = c .before .loop in
+    let e : l .j ≡ 16 = omega arith in
+    fill-end _ _ 16 (omega arith) (rw e at (l .inv .2))
+
+pub read-marks-spec : {M : Type 1} → statement M
+read-marks-spec =
+    tie.close
+    (tie.spec
+    Inv-loop
+    μ-loop
+    loop-holds
+    mul-at
+    add-end
+    sub-read-word
+    part-read-word-start
+    part-read-word-end
+    read-word-requires
+    mul-words
+    array-write-words
+    add-j
+    loop-less
+    loop-again
+    returns)

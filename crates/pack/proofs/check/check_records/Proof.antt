@@ -1,0 +1,67 @@
+use Rattle.pack.proofs.PackLaws.{brokenFrom, broken-on, broken-here, broken-none}
+use Rattle.pack.specs.Pack.{lowestBroken}
+use Rattle.pack.specs.Record.{recordCount}
+use native.Mathlib.Omega.{arith}
+use native.Mathlib.Nat.{sub-zero}
+use Prim.Native.Nat.{_≤_, _-_}
+use mathlib.Core.Path.{_≡_, refl, sym, _∙_}
+-- `pack::check::check_records` meets its contract: what is left of the search is the whole of it.
+use Rattle.pack.proofs.check.check_records.Statement.{statement}
+use Rattle.pack.proofs.check.check_records.Tie as tie
+use Rattle.pack.proofs.check.check_records.Reads as reads
+use Rattle.pack.proofs.check.check_records.Lts as lts
+use Rattle.pack.proofs.check.place_keeps.Reads as place-keeps-reads
+
+abbrev Inv-loop : tie.InvT-loop
+Inv-loop n m pack count i₀ i =
+    (i ≤ count) × (count ≡ recordCount pack) × (brokenFrom n m pack i ≡ lowestBroken n m pack)
+
+abbrev μ-loop : tie.MeasureT-loop
+μ-loop n m pack count i₀ i = count - i
+
+loop-holds : tie.Need-loop-holds Inv-loop μ-loop
+loop-holds c = (omega arith, refl, rw sub-zero)
+
+place-keeps-requires : tie.Need-place-keeps-requires Inv-loop μ-loop
+place-keeps-requires c κs = omega arith
+
+add-i : tie.Need-add-i Inv-loop μ-loop
+add-i c = omega arith
+
+loop-less : tie.Need-loop-less Inv-loop μ-loop
+loop-less c = omega arith
+
+loop-again : tie.Need-loop-again Inv-loop μ-loop
+loop-again c =
+    let l = c .before .before .before .loop .inv in
+    (omega arith, l .1, sym (broken-on _ _ _ _ (omega arith) (c .before .place-keeps .ensures) (c .if1 .taken)) ∙ l .2)
+
+cast-t9 : tie.Need-cast-t9 Inv-loop μ-loop
+cast-t9 c = omega arith
+
+returns : tie.Need-returns Inv-loop μ-loop
+returns c =
+    let l = c .before .before .before .loop .inv in
+    broken-here _ _ _ _ (omega arith) (c .before .place-keeps .ensures) (c .if1 .left) (l .2)
+
+cast-t11 : tie.Need-cast-t11 Inv-loop μ-loop
+cast-t11 c = omega arith
+
+returns-2 : tie.Need-returns-2 Inv-loop μ-loop
+returns-2 c = broken-none _ _ _ _ (omega arith) (c .before .loop .inv .2)
+
+pub check-records-spec : {M : Type 1} → statement M
+check-records-spec =
+    tie.close
+    (tie.spec
+    Inv-loop
+    μ-loop
+    loop-holds
+    place-keeps-requires
+    add-i
+    loop-less
+    loop-again
+    cast-t9
+    returns
+    cast-t11
+    returns-2)

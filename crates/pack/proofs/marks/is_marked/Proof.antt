@@ -1,0 +1,25 @@
+use Rattle.pack.specs.Marks.{marked}
+use Rattle.bits.specs.Bit.{has}
+use Prim.Native.Nat.{ℕ, _%_}
+use mathlib.Core.Path.{ap, _∙_}
+-- `pack::marks::is_marked` meets its contract.
+use borrow.Author.Needs.{needs}
+use Rattle.pack.proofs.marks.is_marked.Statement.{statement}
+use Rattle.pack.proofs.marks.is_marked.Tie as tie
+use Rattle.pack.proofs.marks.is_marked.Reads as reads
+use Rattle.pack.proofs.marks.is_marked.Lts as lts
+use Rattle.bits.proofs.test_bit.Reads as test-bit-reads
+use Rattle.pack.proofs.marks.mark_word.Reads as mark-word-reads
+
+mark-word-requires : tie.Need-mark-word-requires
+mark-word-requires c κs = search needs
+
+test-bit-requires : tie.Need-test-bit-requires
+test-bit-requires c κs = search needs
+
+returns : tie.Need-returns
+unfolding marked
+returns c = rw (c .before .mark-word .ensures) at (c .test-bit .ensures)
+
+pub is-marked-spec : {M : Type 1} → statement M
+is-marked-spec = tie.close (tie.spec mark-word-requires test-bit-requires returns)
