@@ -28,6 +28,10 @@ pub or-false : (a : Bool) → (a || false) ≡ a
 or-false true = refl
 or-false false = refl
 
+pub or-assoc : (a b c : Bool) → ((a || b) || c) ≡ (a || (b || c))
+or-assoc true b c = refl
+or-assoc false b c = refl
+
 pub not-true : (a : Bool) → not a ≡ true → a ≡ false
 not-true true h = sym h
 not-true false h = refl

@@ -4,5 +4,6 @@ pub mod RecordLaws
 pub mod PackLaws
 pub mod MarkLaws
 pub mod QuestionLaws
+pub mod RuleLaws
 pub mod Soundness
 pub mod Promises
