@@ -149,14 +149,17 @@ bit-pow k j = go (ℕ-discrete k j)
   where
     half : (i : ℕ) → 2 ^ suc i / 2 ≡ 2 ^ i
     half i = omega (arith, pow-suc 2 i)
+
     same : (i : ℕ) → bit (2 ^ i) i ≡ 1
     same zero = bit-zero 1
     same (suc i) = bit-suc (2 ^ suc i) i ∙ ap (λ (x : ℕ). bit x i) (half i) ∙ same i
+
     other : (i l : ℕ) → (i ≡ l → ⊥) → bit (2 ^ i) l ≡ 0
     other zero zero n = absurd (n refl)
     other zero (suc l) n = bit-suc 1 l ∙ bit-of-zero l
     other (suc i) zero n = bit-zero (2 ^ suc i) ∙ omega (arith, pow-suc 2 i)
     other (suc i) (suc l) n = bit-suc (2 ^ suc i) l ∙ ap (λ (x : ℕ). bit x l) (half i) ∙ other i l (λ e. n (ap suc e))
+
     go : Dec (k ≡ j) → has (2 ^ k) j ≡ eqb k j
     go (yes e) = rw e (one-has (2 ^ j) j (same j) ∙ sym (eq-eqb j j refl))
     go (no n) = not-has (2 ^ k) j (other k j n) ∙ sym (ne-eqb k j n)
@@ -231,7 +234,7 @@ module _ (w y : ℕ) (hw : w < 2 ^ 64) (hy : y < 64) where
     from = omega arith;
     within = omega arith;
     none = λ i l h. not-has w i (shifted i l ∙ ap (λ (x : ℕ). bit x (i - y)) e ∙ bit-of-zero (i - y));
-    found = λ h. absurd (omega arith)
+    found = λ h. absurd (omega arith);
   }
 
   pub next-found : (w / 2 ^ y ≡ 0 → ⊥) → Lowest (has w) y (64 - y) (y + trailingZeros 64 (w / 2 ^ y))
@@ -244,7 +247,7 @@ module _ (w y : ℕ) (hw : w < 2 ^ 64) (hy : y < 64) where
         from = omega arith;
         within = omega arith;
         none = λ i l h. not-has w i (shifted i l ∙ tz-below 64 (w / 2 ^ y) (i - y) (omega arith));
-        found = λ h. one-has w (y + t) one
+        found = λ h. one-has w (y + t) one;
       }
 
 -- the count of set bits
@@ -254,18 +257,18 @@ ones-count zero a h = ap ones (lt-one h)
 ones-count (suc k) a h =
     let one : suc k ≡ 1 + k = omega arith in
     let low : countTo (has a) 1 ≡ a % 2 = rw zero-add first in
-    omega
-    (
-        arith,
-        ones-step a,
-        ones-count k (a / 2) (omega (arith, pow-suc 2 k)),
-        ap (countTo (has a)) one,
-        count-add (has a) 1 k,
-        count-same (λ j. has a (1 + j)) (has (a / 2)) k (λ j l. shift j)
+    omega (
+      arith,
+      ones-step a,
+      ones-count k (a / 2) (omega (arith, pow-suc 2 k)),
+      ap (countTo (has a)) one,
+      count-add (has a) 1 k,
+      count-same (λ j. has a (1 + j)) (has (a / 2)) k (λ j l. shift j),
     )
   where
     first : cond (has a 0) 1 0 ≡ a % 2
     first = sym (bit-has a 0) ∙ bit-zero a
+
     shift : (j : ℕ) → has a (1 + j) ≡ has (a / 2) j
     shift j = by-bits a (1 + j) (has (a / 2) j) (λ e. next j ∙ has-one (a / 2) j e) (λ e. next j ∙ has-not (a / 2) j e)
       where

@@ -23,7 +23,7 @@ module _ (p : ℕ → Bool) where
     from = omega arith;
     within = omega arith;
     none = λ j h l. absurd (omega arith);
-    found = λ h. absurd (omega arith)
+    found = λ h. absurd (omega arith);
   }
   lowest-is i (suc c) = go (p i) refl (lowest-is (i + 1) c)
     where
@@ -32,7 +32,7 @@ module _ (p : ℕ → Bool) where
         from = omega arith;
         within = omega arith;
         none = λ j h l. absurd (omega arith);
-        found = λ _. e
+        found = λ _. e;
       }
       go false e rest =
           let f = rest .from in
@@ -41,7 +41,7 @@ module _ (p : ℕ → Bool) where
             from = omega arith;
             within = omega arith;
             none = λ j h l. here j l (ℕ-discrete i j) h;
-            found = λ h. rest .found (omega arith)
+            found = λ h. rest .found (omega arith);
           }
         where
           here : (j : ℕ) → j < lowest p (i + 1) c → Dec (i ≡ j) → i ≤ j → p j ≡ false
@@ -81,7 +81,7 @@ module _ (p : ℕ → Bool) where
     from = omega arith;
     within = omega arith;
     none = f;
-    found = λ h. absurd (omega arith)
+    found = λ h. absurd (omega arith);
   }))
 
   -- the tests
@@ -136,6 +136,11 @@ module _ (p : ℕ → Bool) where
   count-add a zero = rw add-zero (omega arith)
   count-add a (suc b) = rw add-suc (omega (arith, count-add a b))
 
+pub every-same : (p q : ℕ → Bool) (c : ℕ) → ((j : ℕ) → j < c → p j ≡ q j) → every c p ≡ every c q
+unfolding every
+every-same p q zero h = refl
+every-same p q (suc c) h = rw (every-same p q c (λ j l. h j (omega arith)), h c (omega arith))
+
 pub count-same : (p q : ℕ → Bool) (c : ℕ) → ((j : ℕ) → j < c → p j ≡ q j) → countTo p c ≡ countTo q c
 unfolding countTo
 count-same p q zero h = refl
@@ -150,7 +155,7 @@ lowest-same p q i c h =
       from = l .from;
       within = l .within;
       none = λ j g k. sym (h j g (omega arith)) ∙ l .none j g k;
-      found = λ k. sym (h (lowest p i c) (l .from) k) ∙ l .found k
+      found = λ k. sym (h (lowest p i c) (l .from) k) ∙ l .found k;
     })
 
 pub count-le : (p : ℕ → Bool) (c : ℕ) → countTo p c ≤ c

@@ -13,6 +13,10 @@ pub and-false : (a b : Bool) → b ≡ false → (a && b) ≡ false
 and-false true b h = h
 and-false false b h = refl
 
+pub and-yes : (a : Bool) → (a && true) ≡ a
+and-yes true = refl
+and-yes false = refl
+
 pub or-elim : {C : Type 0} (a b : Bool) → (a || b) ≡ true → (a ≡ true → C) → (b ≡ true → C) → C
 or-elim true b h f g = f refl
 or-elim false b h f g = g h

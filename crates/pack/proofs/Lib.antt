@@ -4,6 +4,7 @@ pub mod RecordLaws
 pub mod PackLaws
 pub mod MarkLaws
 pub mod QuestionLaws
+pub mod WorldLaws
 pub mod RuleLaws
 pub mod Soundness
 pub mod Promises

@@ -30,12 +30,11 @@ module _ (ws : List ℕ) where
   pub count-word : (w : ℕ) → countTo (marked ws) (64 * (w + 1)) ≡ countTo (marked ws) (64 * w) + countTo (has (getD ws w 0)) 64
   count-word w =
       let all : 64 * (w + 1) ≡ 64 * w + 64 = omega arith in
-      omega
-      (
-          arith,
-          ap (countTo (marked ws)) all,
-          count-add (marked ws) (64 * w) 64,
-          count-same (λ j. marked ws (64 * w + j)) (has (getD ws w 0)) 64 (λ j l. at-word (64 * w + j) w j (omega arith) (omega arith))
+      omega (
+        arith,
+        ap (countTo (marked ws)) all,
+        count-add (marked ws) (64 * w) 64,
+        count-same (λ j. marked ws (64 * w + j)) (has (getD ws w 0)) 64 (λ j l. at-word (64 * w + j) w j (omega arith) (omega arith)),
       )
 
   -- from p on, nothing is marked before q
@@ -62,7 +61,7 @@ module _ (ws : List ℕ) where
       from = let w = word-bounds .0 in omega arith;
       within = omega arith;
       none = clear-word p f;
-      found = λ _. at-word (q / 64 * 64 + j) (q / 64) j (omega arith) (omega arith) ∙ inWord .found (omega arith)
+      found = λ _. at-word (q / 64 * 64 + j) (q / 64) j (omega arith) (omega arith) ∙ inWord .found (omega arith);
     }
 
   pub none-found : (p q : ℕ) → p ≤ q → q ≤ p + (1024 - p) → 1024 ≤ q → Clear p q → Lowest (marked ws) p (1024 - p) q

@@ -65,8 +65,8 @@ module _ (n m : ℕ) (s : List ℕ) where
 
   -- the four answers of the table's first three lines, and what each shows
   answer : (C : Checked → Type 0) (p q : Bool) (t : Bool) → sizesFit n m ≡ p → lengthFits s ≡ q → ltb (lowestBroken n m s) (recordCount s) ≡ t
-    → (p ≡ false → C (Refused Sizes)) → (q ≡ false → C (Refused Pack)) → (p ≡ true → q ≡ true → t ≡ true → C (Refused (Record (lowestBroken n m s)))) → (p ≡ true → q ≡ true → t ≡ false → C (Count (recordCount s)))
-    → C (cond p (cond q (cond t (Refused (Record (lowestBroken n m s))) (Count (recordCount s))) (Refused Pack)) (Refused Sizes))
+      → (p ≡ false → C (Refused Sizes)) → (q ≡ false → C (Refused Pack)) → (p ≡ true → q ≡ true → t ≡ true → C (Refused (Record (lowestBroken n m s)))) → (p ≡ true → q ≡ true → t ≡ false → C (Count (recordCount s)))
+      → C (cond p (cond q (cond t (Refused (Record (lowestBroken n m s))) (Count (recordCount s))) (Refused Pack)) (Refused Sizes))
   answer C false q t e f g h₁ h₂ h₃ h₄ = h₁ refl
   answer C true false t e f g h₁ h₂ h₃ h₄ = h₂ refl
   answer C true true true e f g h₁ h₂ h₃ h₄ = h₃ refl refl refl
@@ -92,7 +92,7 @@ module _ (n m : ℕ) (s : List ℕ) where
         whole = eqb-true _ _ (d .0);
         size = leb-true _ _ (d .1);
         all = λ i h. kept i (omega arith);
-        count = cc
+        count = cc;
       })
       e
 
@@ -105,7 +105,7 @@ module _ (n m : ℕ) (s : List ℕ) where
         from = omega arith;
         within = omega arith;
         none = λ j h l. ap not (a .all j l);
-        found = λ h. absurd (omega arith)
+        found = λ h. absurd (omega arith);
       }) in
       rw (
         le-leb 1 n (a .n-some),
@@ -130,7 +130,7 @@ module _ (n m : ℕ) (s : List ℕ) where
       record {
         there = omega arith;
         breaks = rw (← same) (not-true (keepsAt n m s (lowestBroken n m s)) (found .found (omega (arith, zero-add (recordCount s)))));
-        before = λ j h. kept j (omega arith)
+        before = λ j h. kept j (omega arith);
       })
       (λ p q t g. let z : _≡_ {A = ℕ} 0 1 = cc in absurd (omega arith))
       e

@@ -36,12 +36,14 @@ asked n m s ws a b {k} = after (checkPack n m s) refl
           pack = counted n m s e;
           marks = fit ws f;
           goalA = ltb-true a n (p .0);
-          goalB = ltb-true b n (p .1)
+          goalB = ltb-true b n (p .1);
         })
     goal j e f false g h = let z : _≡_ {A = ℕ} 0 1 = cc in absurd (omega arith)
+
     counts : (j : ℕ) → checkPack n m s ≡ Count j → (t : Bool) → marksFit ws j ≡ t → cond t (cond (goalFits n a b) (Count j) (Refused Goal)) (Refused Marks) ≡ Count k → Asked n m s ws a b k
     counts j e true f h = goal j e f (goalFits n a b) refl h
     counts j e false f h = let z : _≡_ {A = ℕ} 0 1 = cc in absurd (omega arith)
+
     after : (r : Checked) → checkPack n m s ≡ r → afterPack r n ws a b ≡ Count k → Asked n m s ws a b k
     after (Refused why) e h = let z : _≡_ {A = ℕ} 0 1 = cc in absurd (omega arith)
     after (Count j) e h = counts j e (marksFit ws j) refl h

@@ -1,7 +1,9 @@
 -- Numbers in bytes, the low byte first; parts of 8 bytes; lists by a rule.
 use Prim.Native.Nat.{ℕ, zero, suc, _+_, _*_, _^_}
+use mathlib.Core.Bool.{cond}
 use mathlib.Core.List.{List, [], _∷_}
-use lib.ListN.{getD, take, drop}
+use lib.Dec.{eqb}
+use lib.ListN.{length, getD, take, drop}
 
 -- the number in the first c bytes
 unfoldable pub littleEndian : ℕ → List ℕ → ℕ
@@ -24,3 +26,7 @@ listed (suc c) i f = f i ∷ listed c (i + 1) f
 -- the 16 words of 128 bytes
 unfoldable pub wordsIn : List ℕ → List ℕ
 wordsIn s = listed 16 0 (λ j. wordIn (part s j))
+
+-- marks as C hands them over: 128 bytes; bytes of another length are no words, and so no marks of any pack
+abbrev pub marksIn : List ℕ → List ℕ
+marksIn s = cond (eqb (length s) 128) (wordsIn s) []

@@ -18,3 +18,7 @@ marksFit ws count = eqb (length ws) 16 && leb 1024 (lowest (marked ws) count (10
 -- how many records are marked
 abbrev pub markCount : List ℕ → ℕ
 markCount ws = countTo (marked ws) 1024
+
+-- the places that count in an answer: the marked ones
+abbrev pub counted : List ℕ → List ℕ → ℕ → Bool
+counted s ws = marked ws

@@ -30,7 +30,14 @@ fn check_counted(n: usize, count: u32, marks: &[u64], a: usize, b: usize) -> Che
 }
 
 // The question check, for any sizes, bytes, words and goal.
-pub fn check_question<'a>(n: usize, m: usize, pack: &'a [u8], marks: &'a [u64], a: usize, b: usize) -> Checked
+pub fn check_question<'a>(
+    n: usize,
+    m: usize,
+    pack: &'a [u8],
+    marks: &'a [u64],
+    a: usize,
+    b: usize,
+) -> Checked
     ensures { λ r. ⌜ r ≡ checkQuestion n m (now (pack .entry)) (now (marks .entry)) a b ⌝ }
 {
     let checked = check_pack(n, m, pack);

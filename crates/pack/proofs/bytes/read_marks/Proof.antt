@@ -8,9 +8,6 @@ use Prim.Native.Nat.{_≤_, _-_}
 -- `pack::bytes::read_marks` meets its contract: word by word.
 use Rattle.pack.proofs.bytes.read_marks.Statement.{statement}
 use Rattle.pack.proofs.bytes.read_marks.Tie as tie
-use Rattle.pack.proofs.bytes.read_marks.Reads as reads
-use Rattle.pack.proofs.bytes.read_marks.Lts as lts
-use Rattle.pack.proofs.bytes.read_word.Reads as read-word-reads
 
 abbrev Inv-loop : tie.InvT-loop
 Inv-loop s words₀ j₀ words j = (j ≤ 16) × (length words ≡ 16) × (take j words ≡ listed j 0 (λ i. wordIn (part s i)))

@@ -4,11 +4,6 @@ use native.Mathlib.Omega.{arith}
 use borrow.Author.Needs.{needs}
 use Rattle.pack.proofs.bytes.read_word.Statement.{statement}
 use Rattle.pack.proofs.bytes.read_word.Tie as tie
-use Rattle.pack.proofs.bytes.read_word.Reads as reads
-use Rattle.pack.proofs.bytes.read_word.Lts as lts
-use Rattle.pack.proofs.bytes.oct.Reads as oct-reads
-use Rattle.pack.proofs.bytes.pair.Reads as pair-reads
-use Rattle.pack.proofs.bytes.quad.Reads as quad-reads
 
 shared-slice-read-pair : tie.Need-shared-slice-read-pair
 shared-slice-read-pair c = search needs

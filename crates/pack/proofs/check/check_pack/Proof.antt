@@ -4,9 +4,6 @@ use borrow.Author.Tests.{le-leb, lt-leb, ne-eqb}
 use borrow.Author.Needs.{needs}
 use Rattle.pack.proofs.check.check_pack.Statement.{statement}
 use Rattle.pack.proofs.check.check_pack.Tie as tie
-use Rattle.pack.proofs.check.check_pack.Reads as reads
-use Rattle.pack.proofs.check.check_pack.Lts as lts
-use Rattle.pack.proofs.check.check_records.Reads as check-records-reads
 
 returns : tie.Need-returns
 unfolding checkPack

@@ -8,9 +8,6 @@ use mathlib.Core.Path.{_≡_, refl, sym, _∙_}
 -- `pack::check::check_records` meets its contract: what is left of the search is the whole of it.
 use Rattle.pack.proofs.check.check_records.Statement.{statement}
 use Rattle.pack.proofs.check.check_records.Tie as tie
-use Rattle.pack.proofs.check.check_records.Reads as reads
-use Rattle.pack.proofs.check.check_records.Lts as lts
-use Rattle.pack.proofs.check.place_keeps.Reads as place-keeps-reads
 
 abbrev Inv-loop : tie.InvT-loop
 Inv-loop n m pack count i₀ i =

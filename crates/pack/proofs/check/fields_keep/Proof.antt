@@ -2,8 +2,6 @@ use borrow.Author.Tests.{ne-eqb}
 -- `pack::check::fields_keep` meets its contract, kind by kind.
 use Rattle.pack.proofs.check.fields_keep.Statement.{statement}
 use Rattle.pack.proofs.check.fields_keep.Tie as tie
-use Rattle.pack.proofs.check.fields_keep.Reads as reads
-use Rattle.pack.proofs.check.fields_keep.Lts as lts
 
 returns : tie.Need-returns
 returns c = rw (c .match .keys1)

@@ -5,9 +5,6 @@ use mathlib.Core.Path.{ap, _∙_}
 use borrow.Author.Needs.{needs}
 use Rattle.pack.proofs.check.place_keeps.Statement.{statement}
 use Rattle.pack.proofs.check.place_keeps.Tie as tie
-use Rattle.pack.proofs.check.place_keeps.Reads as reads
-use Rattle.pack.proofs.check.place_keeps.Lts as lts
-use Rattle.pack.proofs.check.record_keeps.Reads as record-keeps-reads
 
 mul-at : tie.Need-mul-at
 mul-at c = search needs

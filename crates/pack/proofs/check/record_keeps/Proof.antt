@@ -3,9 +3,6 @@ use Rattle.pack.specs.Record.{keepsIn}
 use borrow.Author.Needs.{needs}
 use Rattle.pack.proofs.check.record_keeps.Statement.{statement}
 use Rattle.pack.proofs.check.record_keeps.Tie as tie
-use Rattle.pack.proofs.check.record_keeps.Reads as reads
-use Rattle.pack.proofs.check.record_keeps.Lts as lts
-use Rattle.pack.proofs.check.fields_keep.Reads as fields-keep-reads
 
 shared-slice-read-fields-keep : tie.Need-shared-slice-read-fields-keep
 shared-slice-read-fields-keep c = search needs

@@ -11,10 +11,6 @@ use mathlib.Core.Path.{_≡_, refl, ap, _∙_}
 -- `pack::marks::count_marked` meets its contract: word by word.
 use Rattle.pack.proofs.marks.count_marked.Statement.{statement}
 use Rattle.pack.proofs.marks.count_marked.Tie as tie
-use Rattle.pack.proofs.marks.count_marked.Reads as reads
-use Rattle.pack.proofs.marks.count_marked.Lts as lts
-use Rattle.bits.proofs.count_bits.Reads as count-bits-reads
-use Rattle.pack.proofs.marks.mark_word.Reads as mark-word-reads
 
 abbrev Inv-loop : tie.InvT-loop
 Inv-loop marks n₀ j₀ n j = (j ≤ 16) × (n ≤ 64 * j) × (n ≡ countTo (marked marks) (64 * j))

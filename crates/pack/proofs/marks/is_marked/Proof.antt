@@ -6,10 +6,6 @@ use mathlib.Core.Path.{ap, _∙_}
 use borrow.Author.Needs.{needs}
 use Rattle.pack.proofs.marks.is_marked.Statement.{statement}
 use Rattle.pack.proofs.marks.is_marked.Tie as tie
-use Rattle.pack.proofs.marks.is_marked.Reads as reads
-use Rattle.pack.proofs.marks.is_marked.Lts as lts
-use Rattle.bits.proofs.test_bit.Reads as test-bit-reads
-use Rattle.pack.proofs.marks.mark_word.Reads as mark-word-reads
 
 mark-word-requires : tie.Need-mark-word-requires
 mark-word-requires c κs = search needs

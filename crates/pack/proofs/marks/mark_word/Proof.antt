@@ -4,8 +4,6 @@ use mathlib.Core.Path.{sym}
 use borrow.Author.Needs.{needs}
 use Rattle.pack.proofs.marks.mark_word.Statement.{statement}
 use Rattle.pack.proofs.marks.mark_word.Tie as tie
-use Rattle.pack.proofs.marks.mark_word.Reads as reads
-use Rattle.pack.proofs.marks.mark_word.Lts as lts
 
 returns : tie.Need-returns
 returns c = sym (List·getD-eq-default (c .before .args .marks .now) 0 (c .if1 .taken))

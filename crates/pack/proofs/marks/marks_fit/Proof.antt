@@ -7,9 +7,6 @@ use mathlib.Core.Path.{ap}
 use borrow.Author.Needs.{needs}
 use Rattle.pack.proofs.marks.marks_fit.Statement.{statement}
 use Rattle.pack.proofs.marks.marks_fit.Tie as tie
-use Rattle.pack.proofs.marks.marks_fit.Reads as reads
-use Rattle.pack.proofs.marks.marks_fit.Lts as lts
-use Rattle.pack.proofs.marks.next_marked.Reads as next-marked-reads
 
 returns : tie.Need-returns
 unfolding marksFit

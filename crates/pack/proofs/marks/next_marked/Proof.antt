@@ -10,10 +10,6 @@ use Prim.Native.Nat.{_≤_, _-_, _+_, _/_, _%_}
 -- `pack::marks::next_marked` meets its contract: from the start on nothing is marked before i.
 use Rattle.pack.proofs.marks.next_marked.Statement.{statement}
 use Rattle.pack.proofs.marks.next_marked.Tie as tie
-use Rattle.pack.proofs.marks.next_marked.Reads as reads
-use Rattle.pack.proofs.marks.next_marked.Lts as lts
-use Rattle.bits.proofs.next_bit.Reads as next-bit-reads
-use Rattle.pack.proofs.marks.mark_word.Reads as mark-word-reads
 
 abbrev Inv-loop : tie.InvT-loop
 Inv-loop marks from i₀ i = (from ≤ i) × (i ≤ from + (1024 - from)) × Clear marks from i
@@ -56,8 +52,7 @@ loop-less c = omega (arith, bounds (c .before))
 loop-again : tie.Need-loop-again Inv-loop μ-loop
 loop-again c =
     let a = c .before .before .before .before in
-    let l = a .loop in
-    (
+    let l = a .loop in (
       omega (arith, bounds (c .before)),
       omega (arith, bounds (c .before)),
       clear-word (a .before .before .args .marks .now) (l .i) _ (next (c .before)) _ (l .inv .2),

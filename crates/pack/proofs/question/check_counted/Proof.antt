@@ -3,10 +3,6 @@ use mathlib.Core.Path.{sym, _∙_}
 use borrow.Author.Needs.{needs}
 use Rattle.pack.proofs.question.check_counted.Statement.{statement}
 use Rattle.pack.proofs.question.check_counted.Tie as tie
-use Rattle.pack.proofs.question.check_counted.Reads as reads
-use Rattle.pack.proofs.question.check_counted.Lts as lts
-use Rattle.pack.proofs.marks.marks_fit.Reads as marks-fit-reads
-use Rattle.pack.proofs.question.goal_fits.Reads as goal-fits-reads
 
 marks-fit-requires : tie.Need-marks-fit-requires
 marks-fit-requires c κs = search needs

@@ -4,10 +4,6 @@ use mathlib.Core.Path.{sym, ap, _∙_}
 use borrow.Author.Needs.{needs}
 use Rattle.pack.proofs.question.check_question.Statement.{statement}
 use Rattle.pack.proofs.question.check_question.Tie as tie
-use Rattle.pack.proofs.question.check_question.Reads as reads
-use Rattle.pack.proofs.question.check_question.Lts as lts
-use Rattle.pack.proofs.check.check_pack.Reads as check-pack-reads
-use Rattle.pack.proofs.question.check_counted.Reads as check-counted-reads
 
 check-pack-requires : tie.Need-check-pack-requires
 check-pack-requires c κs = search needs

@@ -2,8 +2,6 @@ use borrow.Author.Tests.{lt-ltb, le-ltb}
 -- `pack::question::goal_fits` meets its contract.
 use Rattle.pack.proofs.question.goal_fits.Statement.{statement}
 use Rattle.pack.proofs.question.goal_fits.Tie as tie
-use Rattle.pack.proofs.question.goal_fits.Reads as reads
-use Rattle.pack.proofs.question.goal_fits.Lts as lts
 
 returns : tie.Need-returns
 returns c = rw (le-ltb _ _ (c .if1 .taken))

@@ -1,0 +1,2 @@
+-- That the promises fix their results.
+pub mod Promises

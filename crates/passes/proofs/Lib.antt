@@ -1,0 +1,12 @@
+-- The laws, for the callers' proofs: what loops and saturation keep, that the finished passes are exact and decide, and that our sheets are good.
+pub mod LoopLaws
+pub mod SaturationLaws
+pub mod Sums
+pub mod Ranges
+pub mod Lacking
+pub mod Exact
+pub mod PassLaws
+pub mod RowLaws
+pub mod StopLaws
+pub mod YesLaws
+pub mod NoLaws

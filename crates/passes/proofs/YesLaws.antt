@@ -1,0 +1,164 @@
+-- Our yes sheet is good: each step by the steps before it, and the goal is concluded.
+use mathlib.Core.Path.{_≡_, refl, ap, _∙_}
+use mathlib.Core.Bool.{Bool, true, false, _&&_, _||_}
+use mathlib.Core.List.{List, [], _∷_, _++_, reverse, reverse-cons}
+use Prim.Native.Nat.{ℕ, _≤_, _<_}
+use native.Mathlib.Decide.{decLt}
+use native.Mathlib.Omega.{arith}
+use lib.Dec.{eqb, ltb}
+use lib.ListN.{length, getD, take, length-reverse, List·getD-append}
+use lib.Seq.{take-append-le, take-at, getD-at}
+use borrow.Author.Tests.{lt-ltb, eq-eqb}
+use Rattle.bits.proofs.Truth.{and-true, true-and, or-elim, or-left, or-right, never}
+use Rattle.pack.specs.declared.line.Line.{Line}
+use Rattle.pack.specs.declared.line.Fact.{Fact}
+use Rattle.pack.specs.declared.line.Fact.the-variants.{In}
+use Rattle.pack.specs.declared.line.Step.{Step}
+use Rattle.pack.specs.World.{lineAt}
+use Rattle.pack.specs.Record.{Valid}
+use Rattle.pack.specs.Rules.{premiseOneOf, premiseTwoOf, conclusionOf, usesY, usesZ, Fits, Usable, free, sameFact}
+use Rattle.pack.proofs.Soundness.{free-self}
+use Rattle.sheets.specs.YesSheet.{concluded, known, numberFits, usable, goodOver}
+use Rattle.passes.specs.Saturation.{said, holds}
+use Rattle.passes.specs.Passes.{el, notFree, finished, table, verdict}
+use Rattle.passes.specs.Ours.{ourSteps}
+use Rattle.passes.proofs.LoopLaws.{Later, later-refl, later-cons, later-trans}
+use Rattle.passes.proofs.SaturationLaws.{Added, Built, built-later}
+use Rattle.passes.proofs.PassLaws.{BuiltSteps, steps-most, finished-built}
+use Rattle.passes.proofs.StopLaws.{said-reverse, reached-said, first-reached, ours-reached, ours-none}
+
+-- what the sheets' check calls concluded and known is what the passes say and hold
+pub concluded-said : (ls : List Line) (ss : List Step) (f : Fact) → concluded ls ss f ≡ said (el ls) ss f
+unfolding concluded said
+concluded-said ls [] f = refl
+concluded-said ls (s ∷ ss) f = ap (λ (t : Bool). sameFact (conclusionOf ls s) f || t) (concluded-said ls ss f)
+
+pub known-holds : (ls : List Line) (n : ℕ) (st : List Step) (f : Fact) → known ls n (reverse st) f ≡ holds (el ls) (free n) st f
+unfolding known holds
+known-holds ls n st f = ap (λ (t : Bool). free n f || t) (concluded-said ls (reverse st) f ∙ said-reverse ls st f)
+
+number-fits : (t : Bool) (n y : ℕ) → Fits t n y → numberFits t n y ≡ true
+number-fits true n y h = lt-ltb y n h
+number-fits false n y h = eq-eqb y 0 h
+
+pub usable-true : (ls : List Line) (S : ℕ → Bool) (n : ℕ) (s : Step) → Usable ls S n s → usable ls S n s ≡ true
+unfolding usable
+usable-true ls S n s u =
+    let l = lineAt ls (s .place) in
+    rw (
+      lt-ltb (s .place) (length ls) (u .there),
+      u .marked,
+      lt-ltb (s .x) n (u .fitsX),
+      number-fits (usesY l) n (s .y) (u .fitsY),
+      number-fits (usesZ l) n (s .z) (u .fitsZ),
+    )
+
+-- step i of a list in pass order, and the steps before it
+module _ {A : Type 0} where
+  pub reverse-at : (st : List A) (i : ℕ) (d : A) → i < length st → (old : List A) × (take i (reverse st) ≡ reverse old) × Later (getD (reverse st) i d ∷ old) st
+  reverse-at [] i d h = absurd (omega arith)
+  reverse-at (s ∷ st) i d h = rw (reverse-cons s st) (go (decLt i (length st)) (reverse-at st i d))
+    where
+      go : Dec (i < length st) → (i < length st → (old : List A) × (take i (reverse st) ≡ reverse old) × Later (getD (reverse st) i d ∷ old) st)
+          → (old : List A) × (take i (reverse st ++ (s ∷ [])) ≡ reverse old) × Later (getD (reverse st ++ (s ∷ [])) i d ∷ old) (s ∷ st)
+      go (yes l) rest =
+          let k = length-reverse st in
+          let r = rest l in
+          rw (take-append-le i (reverse st) (s ∷ []) (omega arith), List·getD-append (reverse st) (s ∷ []) d i (omega arith)) (r .0, r .1, later-trans (r .2) (later-cons s st))
+      go (no l) rest =
+          let k : length (reverse st) ≡ i = length-reverse st ∙ omega arith in
+          rw (take-at (reverse st) (s ∷ []) i k, getD-at (reverse st) s [] d i k) (st, refl, later-refl (s ∷ st))
+
+module _ (ls : List Line) (S : ℕ → Bool) (n : ℕ) where
+  -- EVERY STEP IS GOOD over the steps before it
+  pub steps-good : (st : List Step) → BuiltSteps (free n) ls S n st → (i : ℕ) (d : Step) → i < length st
+      → Usable ls S n (getD (reverse st) i d) × (goodOver ls S n (known ls n (take i (reverse st))) (getD (reverse st) i d) ≡ true)
+  unfolding Built goodOver
+  steps-good st b i d h =
+      let r = reverse-at st i d h in
+      let s = getD (reverse st) i d in
+      let a : Added (el ls) (free n) (Usable ls S n) (r .0) s = built-later (el ls) (free n) (Usable ls S n) (r .2) b .0 in (
+        a .taken,
+        rw (r .1) (true-and (usable ls S n s) (known ls n (reverse (r .0)) (premiseOneOf ls s) && known ls n (reverse (r .0)) (premiseTwoOf ls s)) (usable-true ls S n s (a .taken))
+            (true-and (known ls n (reverse (r .0)) (premiseOneOf ls s)) (known ls n (reverse (r .0)) (premiseTwoOf ls s))
+            (known-holds ls n (r .0) (premiseOneOf ls s) ∙ a .first) (known-holds ls n (r .0) (premiseTwoOf ls s) ∙ a .second))),
+      )
+
+-- the numbers of a usable step are below n, also the zeros
+pub record Small (ls : List Line) (n : ℕ) (s : Step) : Type 0 where
+  pub place-there : s .place < length ls
+  pub x-small : s .x < n
+  pub y-small : s .y < n
+  pub z-small : s .z < n
+
+pub usable-small : (ls : List Line) (S : ℕ → Bool) (n : ℕ) (s : Step) → Usable ls S n s → Small ls n s
+usable-small ls S n s u =
+    let l = lineAt ls (s .place) in
+    record {
+      place-there = u .there;
+      x-small = u .fitsX;
+      y-small = small (usesY l) (s .y) (u .fitsY);
+      z-small = small (usesZ l) (s .z) (u .fitsZ);
+    }
+  where
+    small : (t : Bool) (y : ℕ) → Fits t n y → y < n
+    small true y h = h
+    small false y h = omega (arith, u .fitsX)
+
+-- our steps are the additions up to where the goal is first held
+pub record OurList (ls : List Line) (S : ℕ → Bool) (n m a b : ℕ) : Type 0 where
+  pub list : List Step
+  pub built : BuiltSteps (free n) ls S n list
+  pub ours : ourSteps ls S n m a b ≡ reverse list
+  pub goal : holds (el ls) (free n) list (In a b) ≡ true
+
+module _ (ls : List Line) (S : ℕ → Bool) (n m a b : ℕ) (valid : Valid n m ls) (ha : a < n) (h : verdict ls S n m a b ≡ true) where
+  pub our-list : OurList ls S n m a b
+  unfolding verdict table holds free Built
+  our-list = go (eqb a b) refl
+    where
+      go : (t : Bool) → eqb a b ≡ t → OurList ls S n m a b
+      go true e = record {
+        list = [];
+        built = tt;
+        ours = ours-none ls S n m a b e;
+        goal = or-left (free n (In a b)) (said (el ls) [] (In a b)) (true-and (eqb a b) (ltb a n) e (lt-ltb a n ha));
+      }
+      go false e =
+          let end = finished ls S n m in
+          let k : said (el ls) end (In a b) ≡ true =
+          or-elim (free n (In a b)) (said (el ls) end (In a b)) h (λ k. never (and-true (eqb a b) (ltb a n) k .0) e) (λ k. k) in
+          let r = first-reached ls (In a b) end k in
+          record {
+            list = r .0;
+            built = built-later (el ls) (free n) (Usable ls S n) (r .1) (finished-built (free n) ls S n m valid (free-self n));
+            ours = ours-reached ls S n m a b e (r .2) (r .1);
+            goal = or-right (free n (In a b)) (said (el ls) (r .0) (In a b)) (reached-said ls (In a b) (r .2));
+          }
+
+  both : (i : ℕ) (d : Step) → i < length (ourSteps ls S n m a b)
+      → Usable ls S n (getD (ourSteps ls S n m a b) i d) × (goodOver ls S n (known ls n (take i (ourSteps ls S n m a b))) (getD (ourSteps ls S n m a b) i d) ≡ true)
+  both i d l =
+      let o = our-list in
+      let k : length (ourSteps ls S n m a b) ≡ length (o .list) = ap length (o .ours) ∙ length-reverse (o .list) in
+      rw (o .ours) (steps-good ls S n (o .list) (o .built) i d (omega arith))
+
+  -- EACH OF OUR STEPS IS GOOD by the steps before it
+  pub ours-good : (i : ℕ) (d : Step) → i < length (ourSteps ls S n m a b) → goodOver ls S n (known ls n (take i (ourSteps ls S n m a b))) (getD (ourSteps ls S n m a b) i d) ≡ true
+  ours-good i d l = both i d l .1
+
+  pub ours-usable : (i : ℕ) (d : Step) → i < length (ourSteps ls S n m a b) → Usable ls S n (getD (ourSteps ls S n m a b) i d)
+  ours-usable i d l = both i d l .0
+
+  pub ours-small : (i : ℕ) (d : Step) → i < length (ourSteps ls S n m a b) → Small ls n (getD (ourSteps ls S n m a b) i d)
+  ours-small i d l = usable-small ls S n (getD (ourSteps ls S n m a b) i d) (ours-usable i d l)
+
+  -- OUR STEPS SHOW THE GOAL
+  pub ours-known : known ls n (ourSteps ls S n m a b) (In a b) ≡ true
+  ours-known = let o = our-list in rw (o .ours) (known-holds ls n (o .list) (In a b) ∙ o .goal)
+
+  pub ours-most : length (ourSteps ls S n m a b) ≤ notFree n m
+  ours-most =
+      let o = our-list in
+      let k : length (ourSteps ls S n m a b) ≡ length (o .list) = ap length (o .ours) ∙ length-reverse (o .list) in
+      omega (arith, steps-most (free n) ls S n m valid (free-self n) (o .list) (o .built))

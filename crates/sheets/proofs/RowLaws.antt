@@ -1,0 +1,142 @@
+-- Laws of rows: searches and tests over 64 bits, and over the k things that a row speaks of.
+use mathlib.Core.Path.{_≡_, refl, sym, ap, _∙_}
+use mathlib.Core.Bool.{Bool, true, false, cond, not, _&&_, _||_}
+use mathlib.Core.List.{List}
+use Prim.Native.Nat.{ℕ, zero, suc, _+_, _-_, _*_, _^_, _/_, _%_, _≤_, _<_}
+use native.Mathlib.Decide.{decLt}
+use native.Mathlib.Nat.{mod-eq-of-lt}
+use native.Mathlib.Omega.{arith}
+use lib.Bits.{bitAnd}
+use lib.Dec.{eqb, ltb, leb}
+use lib.ListN.{length}
+use borrow.Author.Tests.{lt-ltb, le-ltb, ltb-true, ltb-false, leb-true, le-leb, lt-leb, eq-eqb, ne-eqb, eqb-true, eqb-false}
+use Rattle.bits.specs.Bit.{has}
+use Rattle.bits.specs.Sets.{lowest, every, some}
+use Rattle.bits.proofs.Truth.{and-true, true-and, and-false, and-yes, or-false, alike, never}
+use Rattle.bits.proofs.SetLaws.{Lowest, lowest-is, every-true, true-every, every-false, some-true, true-some, some-false}
+use Rattle.bits.proofs.BitLaws.{has-high, meets-none, none-meets, contained, contains}
+use Rattle.pack.specs.World.{implies}
+use Rattle.pack.proofs.WorldLaws.{implies-true, true-implies}
+
+-- a bit at or above the limit is there exactly when the search from the limit on finds one
+pub past : (w limit : ℕ) → ltb (lowest (has w) limit (64 - limit)) 64 ≡ some 64 (λ j. leb limit j && has w j)
+past w limit =
+    alike (ltb (lowest (has w) limit (64 - limit)) 64) (some 64 (λ j. leb limit j && has w j))
+    (λ h.
+    let l = ltb-true (lowest (has w) limit (64 - limit)) 64 h in
+    let f = found .from in
+    true-some (λ j. leb limit j && has w j) 64 (lowest (has w) limit (64 - limit)) l
+    (true-and (leb limit (lowest (has w) limit (64 - limit))) (has w (lowest (has w) limit (64 - limit))) (le-leb limit (lowest (has w) limit (64 - limit)) f) (found .found (omega arith))))
+    (λ h.
+    let e = some-true (λ j. leb limit j && has w j) 64 h in
+    let p = and-true (leb limit (e .0)) (has w (e .0)) (e .2) in
+    let a = leb-true limit (e .0) (p .0) in
+    lt-ltb (lowest (has w) limit (64 - limit)) 64 (below (e .0) (e .1) a (p .1) (decLt (lowest (has w) limit (64 - limit)) 64)))
+  where
+    found : Lowest (has w) limit (64 - limit) (lowest (has w) limit (64 - limit))
+    found = lowest-is (has w) limit (64 - limit)
+
+    below : (j : ℕ) → j < 64 → limit ≤ j → has w j ≡ true → Dec (lowest (has w) limit (64 - limit) < 64) → lowest (has w) limit (64 - limit) < 64
+    below j l a p (yes q) = q
+    below j l a p (no q) = never p (found .none j a (omega arith))
+
+-- two words meet
+pub meet : (x y : ℕ) → x < 2 ^ 64 → not (eqb (bitAnd x y) 0) ≡ some 64 (λ j. has x j && has y j)
+meet x y h = go (eqb (bitAnd x y) 0) refl
+  where
+    go : (t : Bool) → eqb (bitAnd x y) 0 ≡ t → not t ≡ some 64 (λ j. has x j && has y j)
+    go true e = sym (some-false (λ j. has x j && has y j) 64 (λ j l. meets-none 64 x y (eqb-true (bitAnd x y) 0 e) j))
+    go false e = other (some 64 (λ j. has x j && has y j)) refl
+      where
+        other : (t : Bool) → some 64 (λ j. has x j && has y j) ≡ t → true ≡ t
+        other true f = refl
+        other false f = absurd (eqb-false (bitAnd x y) 0 e (none-meets 64 x y h (λ j l. none-some j l (has x j && has y j) refl)))
+          where
+            none-some : (j : ℕ) → j < 64 → (t : Bool) → (has x j && has y j) ≡ t → t ≡ false
+            none-some j l true g = never (true-some (λ j. has x j && has y j) 64 j l g) f
+            none-some j l false g = refl
+
+-- one word has every bit of the other
+pub inside : (x y : ℕ) → x < 2 ^ 64 → y < 2 ^ 64 → eqb (bitAnd x ((2 ^ 64 - 1) - y)) 0 ≡ every 64 (λ j. implies (has x j) (has y j))
+inside x y hx hy =
+    alike (eqb (bitAnd x ((2 ^ 64 - 1) - y)) 0) (every 64 (λ j. implies (has x j) (has y j)))
+    (λ h. true-every (λ j. implies (has x j) (has y j)) 64 (λ j l. true-implies (has x j) (has y j) (contained 64 x y hx hy (eqb-true (bitAnd x ((2 ^ 64 - 1) - y)) 0 h) j l)))
+    (λ h. eq-eqb (bitAnd x ((2 ^ 64 - 1) - y)) 0 (contains 64 x y hx hy (λ j l. implies-true (has x j) (has y j) (every-true (λ j. implies (has x j) (has y j)) 64 h j l))))
+
+-- 64 bits, or those of the k things alone: nothing is said past them
+pub every-things : (p : ℕ → Bool) (k : ℕ) → k ≤ 64 → ((j : ℕ) → k ≤ j → j < 64 → p j ≡ true) → every 64 p ≡ every k p
+every-things p k h f =
+    alike (every 64 p) (every k p)
+    (λ e. true-every p k (λ j l. every-true p 64 e j (omega arith)))
+    (λ e. true-every p 64 (λ j l. go j l e (decLt j k)))
+  where
+    go : (j : ℕ) → j < 64 → every k p ≡ true → Dec (j < k) → p j ≡ true
+    go j l e (yes q) = every-true p k e j q
+    go j l e (no q) = f j (omega arith) l
+
+pub some-things : (p q : ℕ → Bool) (k : ℕ) → k ≤ 64 → ((j : ℕ) → j < k → p j ≡ q j) → ((j : ℕ) → k ≤ j → p j ≡ false) → some 64 p ≡ some k q
+some-things p q k h e f =
+    alike (some 64 p) (some k q)
+    (λ s. let w = some-true p 64 s in at (w .0) (w .2) (decLt (w .0) k))
+    (λ s. let w = some-true q k s in let l = w .1 in true-some p 64 (w .0) (omega arith) (e (w .0) (w .1) ∙ w .2))
+  where
+    at : (j : ℕ) → p j ≡ true → Dec (j < k) → some k q ≡ true
+    at j s (yes l) = true-some q k j l (sym (e j l) ∙ s)
+    at j s (no l) = never s (f j (omega arith))
+
+-- bit j mod 64 is bit j
+pub low : (w j : ℕ) {r : Bool} → j < 64 → r ≡ has w (j % 64) → r ≡ has w j
+low w j h e = e ∙ ap (has w) (mod-eq-of-lt h)
+
+-- "if p then q", as the code answers it: q where p is yes, and yes where p is no
+pub implied : (p q : Bool) {r s : Bool} → r ≡ p → r ≡ true → s ≡ q → s ≡ implies p q
+unfolding implies
+implied p q e t f = f ∙ rw (sym e ∙ t)
+
+pub not-implied : (p q : Bool) {r : Bool} → r ≡ p → r ≡ false → true ≡ implies p q
+unfolding implies
+not-implied p q e t = rw (sym e ∙ t)
+
+pub both-implied : (p q v : Bool) {r s : Bool} → r ≡ p → r ≡ true → s ≡ implies q v → s ≡ implies (p && q) v
+both-implied p q v e t f = f ∙ rw (sym e ∙ t)
+
+-- a walk over the set bits of a word: each bit before y that is set is ok, and y is set or past the end
+module _ (w : ℕ) (ok : ℕ → Bool) where
+  abbrev pub Passed : ℕ → Type 0
+  Passed y = (y ≤ 64) × ((j : ℕ) → j < y → implies (has w j) (ok j) ≡ true) × (y < 64 → has w y ≡ true)
+
+  pub pass-start : {r : ℕ} → r ≡ lowest (has w) 0 64 → Passed r
+  pass-start {r} e =
+      let f : Lowest (has w) 0 64 r = rw e (lowest-is (has w) 0 64) in
+      let l = f .within in
+      (omega arith, (λ j h. true-implies (has w j) (ok j) (λ t. never t (f .none j (omega arith) h))), (λ h. f .found (omega arith)))
+
+  pub pass-on : (y : ℕ) {r : ℕ} → y < 64 → Passed y → ok y ≡ true → r ≡ lowest (has w) (y + 1) (64 - (y + 1)) → Passed r × (y < r)
+  pass-on y {r} h p o e =
+      let f : Lowest (has w) (y + 1) (64 - (y + 1)) r = rw e (lowest-is (has w) (y + 1) (64 - (y + 1))) in
+      let l = f .within in
+      let g = f .from in
+      ((omega arith, (λ j k. true-implies (has w j) (ok j) (λ t. at f j k t (decLt j y) (decLt y j))), (λ k. f .found (omega arith))), omega arith)
+    where
+      at : Lowest (has w) (y + 1) (64 - (y + 1)) r → (j : ℕ) → j < r → has w j ≡ true → Dec (j < y) → Dec (y < j) → ok j ≡ true
+      at f j k t (yes a) b = implies-true (has w j) (ok j) (p .1 j a) t
+      at f j k t (no a) (yes b) = never t (f .none j (omega arith) k)
+      at f j k t (no a) (no b) = let same : y ≡ j = omega arith in ap ok (sym same) ∙ o
+
+  pub pass-end : (k y : ℕ) → k ≤ 64 → 64 ≤ y → Passed y → true ≡ every k (λ j. implies (has w j) (ok j))
+  pass-end k y h l p = sym (true-every (λ j. implies (has w j) (ok j)) k (λ j i. p .1 j (omega arith)))
+
+  pub pass-fails : (k y : ℕ) → y < k → has w y ≡ true → ok y ≡ false → false ≡ every k (λ j. implies (has w j) (ok j))
+  unfolding implies
+  pass-fails k y h t o = sym (every-false (λ j. implies (has w j) (ok j)) k y h (rw (t, o)))
+
+-- a column, one thing further
+pub column-on : (isIn : ℕ → Bool) (column next y : ℕ) {v : Bool} → v ≡ isIn y → ((j : ℕ) → has column j ≡ (ltb j y && isIn j)) → ((j : ℕ) → has next j ≡ (has column j || (v && eqb y j))) → (j : ℕ) → has next j ≡ (ltb j (y + 1) && isIn j)
+column-on isIn column next y {v} e f g j = g j ∙ rw (f j, e) (go (decLt j y) (decLt y j))
+  where
+    go : Dec (j < y) → Dec (y < j) → ((ltb j y && isIn j) || (isIn y && eqb y j)) ≡ (ltb j (y + 1) && isIn j)
+    go (yes a) b = rw (lt-ltb j y a, lt-ltb j (y + 1) (omega arith), ne-eqb y j (λ q. omega arith), and-false (isIn y) false refl) (or-false (isIn j))
+    go (no a) (yes b) = rw (le-ltb j y (omega arith), le-ltb j (y + 1) (omega arith), ne-eqb y j (λ q. omega arith)) (and-false (isIn y) false refl)
+    go (no a) (no b) =
+        let same : y ≡ j = omega arith in
+        rw (le-ltb j y (omega arith), lt-ltb j (y + 1) (omega arith), eq-eqb y j same, same) (and-yes (isIn j))

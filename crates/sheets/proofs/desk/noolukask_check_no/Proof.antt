@@ -1,0 +1,50 @@
+use Rattle.sheets.specs.Desk.{noCode}
+use borrow.Author.Tests.{ne-eqb, eq-eqb}
+use mathlib.Core.Path.{_≡_, refl, sym, ap, _∙_}
+-- `sheets::desk::noolukask_check_no` meets its contract.
+use borrow.Author.Needs.{needs}
+use Rattle.sheets.proofs.desk.noolukask_check_no.Statement.{statement}
+use Rattle.sheets.proofs.desk.noolukask_check_no.Tie as tie
+
+read-marks-requires : tie.Need-read-marks-requires
+read-marks-requires c κs = search needs
+
+slice-aggregate-check-no : tie.Need-slice-aggregate-check-no
+slice-aggregate-check-no c = search needs
+
+check-no-requires : tie.Need-check-no-requires
+check-no-requires c κs = search needs
+
+no-code-requires : tie.Need-no-code-requires
+no-code-requires c κs = search needs
+
+returns : tie.Need-returns
+unfolding noCode
+returns c = rw (eq-eqb _ _ (c .before .before .before .before .if1 .taken)) (rw (c .before .check-no .ensures, c .before .before .before .read-marks .ensures) at (c .no-code .ensures))
+
+slice-aggregate-check-no-2 : tie.Need-slice-aggregate-check-no-2
+slice-aggregate-check-no-2 c = search needs
+
+check-no-requires-2 : tie.Need-check-no-requires-2
+check-no-requires-2 c κs = search needs
+
+no-code-requires-2 : tie.Need-no-code-requires-2
+no-code-requires-2 c κs = search needs
+
+returns-2 : tie.Need-returns-2
+unfolding noCode
+returns-2 c = rw (ne-eqb _ _ (c .before .before .before .if1 .left)) (rw (c .before .check-no2 .ensures) at (c .no-code2 .ensures))
+
+pub noolukask-check-no-spec : {M : Type 1} → statement M
+noolukask-check-no-spec =
+    tie.close
+    (tie.spec
+    read-marks-requires
+    slice-aggregate-check-no
+    check-no-requires
+    no-code-requires
+    returns
+    slice-aggregate-check-no-2
+    check-no-requires-2
+    no-code-requires-2
+    returns-2)

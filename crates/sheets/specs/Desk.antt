@@ -1,0 +1,15 @@
+-- What the two C calls return.
+use Prim.Native.Nat.{ℕ}
+use mathlib.Core.List.{List}
+use Rattle.pack.specs.Bytes.{marksIn}
+use Rattle.sheets.specs.YesSheet.{checkYes}
+use Rattle.sheets.specs.NoSheet.{checkNo}
+use Rattle.sheets.specs.Answers.{yesNumber, yesPlace, noNumber, noPlace, code}
+
+unfoldable pub yesCode : ℕ → ℕ → List ℕ → List ℕ → ℕ → ℕ → List ℕ → ℕ
+yesCode n m s marks a b sheet =
+    code (yesNumber (checkYes n m s (marksIn marks) a b sheet)) (yesPlace (checkYes n m s (marksIn marks) a b sheet))
+
+unfoldable pub noCode : ℕ → ℕ → List ℕ → List ℕ → ℕ → ℕ → List ℕ → ℕ
+noCode n m s marks a b sheet =
+    code (noNumber (checkNo n m s (marksIn marks) a b sheet)) (noPlace (checkNo n m s (marksIn marks) a b sheet))

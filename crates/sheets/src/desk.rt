@@ -1,0 +1,82 @@
+// The two checks for C: numbers and byte slices, the marks as 128 bytes.
+ghost use mathlib.Core.Path.{_≡_};
+ghost use Rattle.sheets.specs.Desk.{yesCode, noCode};
+use crate::no::check_no;
+use crate::no::no_code;
+use crate::yes::check_yes;
+use crate::yes::yes_code;
+use pack::bytes::read_marks;
+
+// The yes check for C.
+#[no_mangle]
+pub extern "C" fn noolukask_check_yes<'a>(
+    n: u64,
+    m: u64,
+    pack: &'a [u8],
+    marks: &'a [u8],
+    a: u64,
+    b: u64,
+    sheet: &'a [u8],
+) -> u64
+    ensures { λ r. ⌜ r ≡ yesCode n m (now (pack .entry)) (now (marks .entry)) a b (now (sheet .entry)) ⌝ }
+{
+    if marks.len() == 128 {
+        let words = read_marks(marks);
+        return yes_code(check_yes(
+            n as usize,
+            m as usize,
+            pack,
+            &words,
+            a as usize,
+            b as usize,
+            sheet,
+        ));
+    }
+    let none = [0u64; 0];
+    yes_code(check_yes(
+        n as usize,
+        m as usize,
+        pack,
+        &none,
+        a as usize,
+        b as usize,
+        sheet,
+    ))
+}
+
+// The no check for C.
+#[no_mangle]
+pub extern "C" fn noolukask_check_no<'a>(
+    n: u64,
+    m: u64,
+    pack: &'a [u8],
+    marks: &'a [u8],
+    a: u64,
+    b: u64,
+    sheet: &'a [u8],
+) -> u64
+    ensures { λ r. ⌜ r ≡ noCode n m (now (pack .entry)) (now (marks .entry)) a b (now (sheet .entry)) ⌝ }
+{
+    if marks.len() == 128 {
+        let words = read_marks(marks);
+        return no_code(check_no(
+            n as usize,
+            m as usize,
+            pack,
+            &words,
+            a as usize,
+            b as usize,
+            sheet,
+        ));
+    }
+    let none = [0u64; 0];
+    no_code(check_no(
+        n as usize,
+        m as usize,
+        pack,
+        &none,
+        a as usize,
+        b as usize,
+        sheet,
+    ))
+}

@@ -1,0 +1,107 @@
+/* Noolukask: does "A under B" follow from the marked records of a pack?
+ * The calls below check packs, questions and the sheets that settle a question.
+ *
+ * What is handed over
+ *   n       how many concept numbers there are, 1 to 64: concepts are 0 to n-1
+ *   m       how many roles there are, 0 to 8: roles are 0 to m-1
+ *   pack    records of 8 bytes, 0 to 1,024 of them, no header: the kind, three
+ *           bytes a, b, c, and a little-endian statement number of any value
+ *             kind 1   A under B             a = A,  b = B,  c = 0
+ *             kind 2   A1 and A2 under B     a = A1, b = A2, c = B
+ *             kind 3   A under some r B      a = A,  b = r,  c = B
+ *             kind 4   some r A under B      a = r,  b = A,  c = B
+ *             kind 5   r under s             a = r,  b = s,  c = 0
+ *             kind 6   r then s under t      a = r,  b = s,  c = t
+ *   marks   128 bytes: 16 little-endian words of 64 bits; record i counts when
+ *           bit i mod 64 of word i div 64 is set, that is bit i mod 8 of byte
+ *           i div 8; no bit at or above the record count may be set
+ *   a, b    the goal: concept a under concept b; they may be equal
+ *   sheet   what somebody offers as the answer, see below
+ *
+ * Numbers and lengths may be of any value: what is out of range is refused.
+ * Nothing that is handed over is changed, kept or freed. A pointer may be NULL
+ * where its length is 0. Calls may run side by side.
+ */
+#ifndef NOOLUKASK_H
+#define NOOLUKASK_H
+
+#include <stddef.h>
+#include <stdint.h>
+
+#ifdef __cplusplus
+extern "C" {
+#endif
+
+/* The table's numbers. Where several apply, the lowest is given. */
+enum noolukask_number {
+    NOOLUKASK_SIZES = 1,      /* n or m out of range                                       */
+    NOOLUKASK_PACK = 2,       /* pack length no multiple of 8, or over 8,192 bytes         */
+    NOOLUKASK_RECORD = 3,     /* a record breaks its rules, marked or not: lowest place    */
+    NOOLUKASK_MARKS = 4,      /* not 128 bytes, or a bit at or above the record count      */
+    NOOLUKASK_GOAL = 5,       /* a goal concept not below n                                */
+    NOOLUKASK_LENGTH = 9,     /* a sheet of an impossible length                           */
+    NOOLUKASK_STEP = 10,      /* a step of a yes sheet is not good: lowest step            */
+    NOOLUKASK_ROW = 11,       /* a forbidden bit in a no sheet: lowest row                 */
+    NOOLUKASK_BROKEN = 12,    /* the world breaks a marked record: lowest place            */
+    NOOLUKASK_NOT_SHOWN = 13  /* the rest is good, but the goal is not shown or refuted    */
+};
+
+/* ---- Library desk: packs and questions ------------------------------------------
+ * Both calls return the table's number in the low byte (0: nothing is refused) and a
+ * value above it (back >> 8): with RECORD the lowest bad place; where nothing is
+ * refused the number of records; else 0. Places count from 0.
+ */
+
+/* Tests numbers 1 to 3. */
+uint64_t noolukask_check_pack(uint64_t n, uint64_t m,
+                              const uint8_t *pack, size_t pack_len);
+
+/* Tests numbers 1 to 5. */
+uint64_t noolukask_check_question(uint64_t n, uint64_t m,
+                                  const uint8_t *pack, size_t pack_len,
+                                  const uint8_t *marks, size_t marks_len,
+                                  uint64_t a, uint64_t b);
+
+/* ---- Library sheets: the two checks of a sheet ----------------------------------
+ * Both return 0 when the sheet is accepted, else the table's number plus 16 times the
+ * place, step or row: number = back % 16, place = back / 16 (0 where there is none).
+ *
+ * An accepted yes sheet means that the goal follows from the marked records; an
+ * accepted no sheet means that it does not. A rejected sheet means nothing: a
+ * rejected yes sheet is no proof of no, nor the other way round.
+ */
+
+/* A yes sheet is 0 to 65,536 steps of 8 bytes: a record's place (two bytes,
+ * little-endian), X, Y, Z, three zeros. Kinds 1 to 3 use X, kinds 4 and 5 X and Y,
+ * kind 6 all three; an unused one is 0. Each step draws one conclusion with a marked
+ * record; "X in X" is free, and every other premise must be the conclusion of an
+ * earlier step:
+ *   1  X in A gives X in B              4  X r Y and Y in A give X in B
+ *   2  X in A1 and A2 gives X in B      5  X r Y gives X s Y
+ *   3  X in A gives X r B               6  X r Y and Y s Z give X t Z
+ * Accepted when every step is good and the goal is free or concluded.
+ * Gives numbers 1 to 5, 9, 10 and 13. */
+uint64_t noolukask_check_yes(uint64_t n, uint64_t m,
+                             const uint8_t *pack, size_t pack_len,
+                             const uint8_t *marks, size_t marks_len,
+                             uint64_t a, uint64_t b,
+                             const uint8_t *sheet, size_t sheet_len);
+
+/* A no sheet is a world of k things, k from 1 to 64, in 8 * k * (1 + m) bytes: rows of
+ * 64 bits, little-endian. First k rows, one a thing, bit j for concept j; then for each
+ * role, ascending, k rows, one a thing, bit y for a link to thing y. Bits at n and
+ * above in the first k rows and at k and above in the others are 0. Rows count from 0
+ * through the whole sheet. Accepted when the world obeys every marked record and
+ * some thing is in a and not in b.
+ * Gives numbers 1 to 5, 9, 11, 12 and 13. */
+uint64_t noolukask_check_no(uint64_t n, uint64_t m,
+                            const uint8_t *pack, size_t pack_len,
+                            const uint8_t *marks, size_t marks_len,
+                            uint64_t a, uint64_t b,
+                            const uint8_t *sheet, size_t sheet_len);
+
+#ifdef __cplusplus
+}
+#endif
+
+#endif

@@ -1,0 +1,137 @@
+//! Damage to questions (numbers 1 to 5 of the table) and to bytes.
+
+use crate::rng::Rng;
+use crate::rules::{record, record_good, Question};
+
+type Fault = fn(&mut Rng, &mut Question);
+
+/// One maker of faults for each of the numbers 1 to 5.
+const FAULTS: [Fault; 5] = [sizes, pack, some_record, marks, goal];
+
+/// The question with each fault alone, and with several at once.
+pub fn questions(rng: &mut Rng, q: &Question) -> Vec<Question> {
+    let mut list: Vec<Question> = FAULTS.iter().map(|fault| faulty(rng, q, &[*fault])).collect();
+    // Highest number first, so that an earlier fault does not hide what the next one needs.
+    let several: Vec<Fault> = FAULTS.iter().rev().copied().filter(|_| rng.chance(50)).collect();
+    list.push(faulty(rng, q, &several));
+    list
+}
+
+fn faulty(rng: &mut Rng, q: &Question, faults: &[Fault]) -> Question {
+    let mut q = q.clone();
+    faults.iter().for_each(|fault| fault(rng, &mut q));
+    q
+}
+
+fn sizes(rng: &mut Rng, q: &mut Question) {
+    if rng.chance(50) {
+        q.n = rng.pick(&[0, 65, 256, q.n + (1 << 32), u64::MAX]);
+    } else {
+        q.m = rng.pick(&[9, 255, q.m + (1 << 32), u64::MAX]);
+    }
+}
+
+fn pack(rng: &mut Rng, q: &mut Question) {
+    if rng.chance(10) {
+        q.pack.resize(8200, 0);
+    } else {
+        let extra = rng.between(1, 7);
+        q.pack.extend(rng.bytes(extra));
+    }
+}
+
+/// A byte of a record that breaks its rule, or a record of no kind where there is none to break.
+fn some_record(rng: &mut Rng, q: &mut Question) {
+    let count = q.pack.len() / 8;
+    if count == 0 {
+        return q.pack.extend([0; 8]);
+    }
+    let place = rng.below(count);
+    let field = rng.below(4);
+    for _ in 0..8 {
+        q.pack[8 * place + field] = rng.pick(&[0, 7, q.n as u8, q.m as u8, 255]);
+        if !record_good(q.n, q.m, record(&q.pack, place)) {
+            return;
+        }
+    }
+}
+
+fn marks(rng: &mut Rng, q: &mut Question) {
+    let count = (q.pack.len() / 8).min(1024);
+    if count == 1024 || rng.chance(20) {
+        return q.marks.resize(rng.pick(&[0, 8, 120, 127, 129, 136, 256]), 0);
+    }
+    let place = if rng.chance(50) { count } else { rng.between(count, 1023) };
+    if q.marks.len() == 128 {
+        q.marks[place / 8] |= 1 << (place % 8);
+    }
+}
+
+fn goal(rng: &mut Rng, q: &mut Question) {
+    let far = rng.pick(&[q.n, q.n + 1, 64, 256, 1 << 32, u64::MAX]);
+    if rng.chance(50) {
+        q.a = far.max(q.n);
+    } else {
+        q.b = far.max(q.n);
+    }
+}
+
+/// Another value for a byte: a bit turned, one more, one less, or any.
+pub fn byte(rng: &mut Rng, old: u8) -> u8 {
+    match rng.below(4) {
+        0 => old.wrapping_add(1),
+        1 => old.wrapping_sub(1),
+        2 => old ^ rng.between(1, 255) as u8,
+        _ => old ^ 1 << rng.below(8),
+    }
+}
+
+/// The bytes to damage one by one: all of a short sheet, some of a long one.
+pub fn places(rng: &mut Rng, len: usize, most: usize) -> Vec<usize> {
+    if len <= most {
+        return (0..len).collect();
+    }
+    (0..most).map(|_| rng.below(len)).collect()
+}
+
+/// The sheet cut short and made longer, at and beside whole parts of 8 bytes.
+pub fn lengths(rng: &mut Rng, sheet: &[u8]) -> Vec<Vec<u8>> {
+    let mut list = Vec::new();
+    for cut in [1, 7, 8, 9, 16].into_iter().filter(|&cut| cut <= sheet.len()) {
+        list.push(sheet[..sheet.len() - cut].to_vec());
+        list.push(sheet[cut..].to_vec());
+    }
+    list.push(sheet[..rng.below(sheet.len() + 1)].to_vec());
+    list.push(sheet[..rng.below(sheet.len() / 8 + 1) * 8].to_vec());
+    for more in [1, 7, 8, 16] {
+        list.push([sheet, &vec![0; more]].concat());
+        list.push([sheet, &rng.bytes(more)].concat());
+    }
+    list.push([sheet, sheet].concat());
+    list
+}
+
+#[cfg(test)]
+mod tests {
+    use super::*;
+    use crate::packs;
+    use crate::rules::check_question;
+
+    #[test]
+    fn each_fault_gives_its_number() {
+        let mut rng = Rng::new(9);
+        let mut seen = [[0; 6]; 5];
+        for _ in 0..2000 {
+            let (n, m, count) = (rng.between(1, 64), rng.between(0, 8), rng.below(20));
+            let q = packs::random_question(&mut rng, n, m, count);
+            for (i, q) in questions(&mut rng, &q)[..5].iter().enumerate() {
+                let number = check_question(q).map_or_else(|refused| refused.number, |_| 0);
+                seen[i][number as usize] += 1;
+            }
+        }
+        for (i, numbers) in seen.iter().enumerate() {
+            // A field may have no bad value to draw; every other try gives the fault's own number.
+            assert!(numbers[i + 1] > 1500, "{seen:?}");
+        }
+    }
+}

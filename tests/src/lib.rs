@@ -1,0 +1,12 @@
+//! The independent side of the tests, written from document 01 alone:
+//! rules, a clear checker of sheets, makers of packs and sheets, and the calls under test.
+
+pub mod calls;
+pub mod checker;
+pub mod damage;
+pub mod derive;
+pub mod packs;
+pub mod rng;
+pub mod rules;
+pub mod trial;
+pub mod worlds;

@@ -1,0 +1,129 @@
+//! Makers of packs, marks and sheets: the valve pack, small ones by hand, random ones.
+
+use crate::rng::Rng;
+use crate::rules::Question;
+
+/// Records from their first four bytes, statement number 0.
+pub fn pack(records: &[[u8; 4]]) -> Vec<u8> {
+    records.iter().flat_map(|&[kind, a, b, c]| [kind, a, b, c, 0, 0, 0, 0]).collect()
+}
+
+/// 128 bytes with these places marked.
+pub fn marks(places: impl IntoIterator<Item = usize>) -> Vec<u8> {
+    let mut words = [0u64; 16];
+    places.into_iter().for_each(|place| words[place / 64] |= 1 << (place % 64));
+    rows(&words)
+}
+
+/// Words as little-endian bytes: marks, or the rows of a no sheet.
+pub fn rows(words: &[u64]) -> Vec<u8> {
+    words.iter().flat_map(|word| word.to_le_bytes()).collect()
+}
+
+/// Steps (place X Y Z) as the bytes of a yes sheet.
+pub fn steps(list: &[[u16; 4]]) -> Vec<u8> {
+    list.iter()
+        .flat_map(|&[place, x, y, z]| {
+            let [low, high] = place.to_le_bytes();
+            [low, high, x as u8, y as u8, z as u8, 0, 0, 0]
+        })
+        .collect()
+}
+
+/// A question with every record marked.
+pub fn question(n: u64, m: u64, records: &[[u8; 4]], a: u64, b: u64) -> Question {
+    Question { n, m, pack: pack(records), marks: marks(0..records.len()), a, b }
+}
+
+pub const VALVE: [[u8; 4]; 6] =
+    [[3, 0, 0, 2], [3, 2, 1, 3], [6, 0, 1, 0], [4, 0, 3, 1], [1, 0, 4, 0], [1, 4, 1, 0]];
+
+/// The valve pack, every record marked.
+pub fn valve(a: u64, b: u64) -> Question {
+    question(5, 2, &VALVE, a, b)
+}
+
+/// C3: the yes sheet for goal (0,1).
+pub fn valve_yes_sheet() -> Vec<u8> {
+    steps(&[[0, 0, 0, 0], [1, 2, 0, 0], [2, 0, 2, 3], [3, 0, 3, 0]])
+}
+
+/// C6: the no sheet for goal (2,1).
+pub fn valve_no_sheet() -> Vec<u8> {
+    let (concepts, site, part_of) =
+        ([0x13, 0x02, 0x04, 0x08, 0x12], [0x0C, 0, 0, 0, 0], [0, 0, 0x08, 0, 0]);
+    rows(&[concepts, site, part_of].concat())
+}
+
+/// 1,024 records of every kind, good for n = 64 and m = 8, of which only the last is marked.
+pub fn longest() -> Question {
+    let records: Vec<[u8; 4]> = (0..1024u32)
+        .map(|i| {
+            let (concept, role) = ((i % 63 + 1) as u8, (i % 8) as u8);
+            match i % 6 {
+                0 => [1, concept, 63, 0],
+                1 => [2, concept, 63, concept],
+                2 => [3, concept, role, 63],
+                3 => [4, role, concept, 63],
+                4 => [5, role, 7, 0],
+                _ => [6, role, 7, role],
+            }
+        })
+        .collect();
+    let mut q = question(64, 8, &records, 0, 1);
+    q.pack[8 * 1023..8 * 1023 + 4].copy_from_slice(&[1, 0, 1, 0]);
+    q.marks = marks([1023]);
+    q
+}
+
+/// A record that keeps its rules; names come often from a few, so that rules meet.
+pub fn random_record(rng: &mut Rng, n: usize, m: usize) -> [u8; 4] {
+    let few = if rng.chance(70) { 5 } else { 64 };
+    let concept = |rng: &mut Rng| rng.below(n.min(few)) as u8;
+    let role = |rng: &mut Rng| rng.below(m.min(few)) as u8;
+    let kind = if m == 0 { rng.between(1, 2) } else { rng.between(1, 6) };
+    match kind {
+        1 => [1, concept(rng), concept(rng), 0],
+        2 => [2, concept(rng), concept(rng), concept(rng)],
+        3 => [3, concept(rng), role(rng), concept(rng)],
+        4 => [4, role(rng), concept(rng), concept(rng)],
+        5 => [5, role(rng), role(rng), 0],
+        _ => [6, role(rng), role(rng), role(rng)],
+    }
+}
+
+/// A good question of these sizes: statement numbers of any value, most records marked.
+pub fn random_question(rng: &mut Rng, n: usize, m: usize, count: usize) -> Question {
+    let mut bytes = Vec::with_capacity(8 * count);
+    for _ in 0..count {
+        bytes.extend(random_record(rng, n, m));
+        bytes.extend(rng.bytes(4));
+    }
+    let share = rng.pick(&[100, 100, 90, 50]);
+    let places: Vec<usize> = (0..count).filter(|_| rng.chance(share)).collect();
+    let (a, b) = (rng.below(n) as u64, rng.below(n) as u64);
+    Question { n: n as u64, m: m as u64, pack: bytes, marks: marks(places), a, b }
+}
+
+#[cfg(test)]
+mod tests {
+    use super::*;
+    use crate::rules::{check_pack, check_question};
+
+    #[test]
+    fn random_questions_are_good() {
+        let mut rng = Rng::new(3);
+        for _ in 0..2000 {
+            let (n, m, count) = (rng.between(1, 64), rng.between(0, 8), rng.below(60));
+            let q = random_question(&mut rng, n, m, count);
+            assert_eq!(check_question(&q), Ok(count as u64));
+        }
+    }
+
+    #[test]
+    fn the_longest_pack_is_good() {
+        let q = longest();
+        assert_eq!(check_pack(64, 8, &q.pack), Ok(1024));
+        assert_eq!(check_question(&q), Ok(1024));
+    }
+}

@@ -1,0 +1,168 @@
+//! Document 01's rules of packs, marks and goals, and its table of what comes back.
+
+/// What is handed to a call besides a sheet.
+#[derive(Clone)]
+pub struct Question {
+    pub n: u64,
+    pub m: u64,
+    pub pack: Vec<u8>,
+    pub marks: Vec<u8>,
+    pub a: u64,
+    pub b: u64,
+}
+
+/// A number of the table, and the place, step or row that it gives (0 where it gives none).
+#[derive(Clone, Copy, PartialEq, Eq, Debug)]
+pub struct Refused {
+    pub number: u64,
+    pub place: u64,
+}
+
+pub const SIZES: Refused = Refused { number: 1, place: 0 };
+pub const PACK: Refused = Refused { number: 2, place: 0 };
+pub const MARKS: Refused = Refused { number: 4, place: 0 };
+pub const GOAL: Refused = Refused { number: 5, place: 0 };
+pub const LENGTH: Refused = Refused { number: 9, place: 0 };
+pub const NOT_SHOWN: Refused = Refused { number: 13, place: 0 };
+
+pub fn record_at(place: usize) -> Refused {
+    Refused { number: 3, place: place as u64 }
+}
+pub fn step_at(step: usize) -> Refused {
+    Refused { number: 10, place: step as u64 }
+}
+pub fn row_at(row: usize) -> Refused {
+    Refused { number: 11, place: row as u64 }
+}
+pub fn broken_at(place: usize) -> Refused {
+    Refused { number: 12, place: place as u64 }
+}
+
+/// What the two sheet calls return: 0, or the number plus 16 times the place.
+pub fn sheet_code(result: Result<(), Refused>) -> u64 {
+    match result {
+        Ok(()) => 0,
+        Err(refused) => refused.number + 16 * refused.place,
+    }
+}
+
+/// What the other calls return: the number in the low byte, the value above it.
+pub fn desk_code(result: Result<u64, Refused>) -> u64 {
+    match result {
+        Ok(value) => 256 * value,
+        Err(refused) => refused.number + 256 * refused.place,
+    }
+}
+
+/// The first four bytes of a record; the statement number is not read.
+#[derive(Clone, Copy)]
+pub struct Record {
+    pub kind: u8,
+    pub a: u8,
+    pub b: u8,
+    pub c: u8,
+}
+
+pub fn record(pack: &[u8], place: usize) -> Record {
+    let bytes = &pack[8 * place..8 * place + 8];
+    Record { kind: bytes[0], a: bytes[1], b: bytes[2], c: bytes[3] }
+}
+
+pub fn record_good(n: u64, m: u64, record: Record) -> bool {
+    let concept = |number: u8| u64::from(number) < n;
+    let role = |number: u8| u64::from(number) < m;
+    let Record { kind, a, b, c } = record;
+    match kind {
+        1 => concept(a) && concept(b) && c == 0,
+        2 => concept(a) && concept(b) && concept(c),
+        3 => concept(a) && role(b) && concept(c),
+        4 => role(a) && concept(b) && concept(c),
+        5 => role(a) && role(b) && c == 0,
+        6 => role(a) && role(b) && role(c),
+        _ => false,
+    }
+}
+
+/// Numbers 1 to 3, or the record count.
+pub fn check_pack(n: u64, m: u64, pack: &[u8]) -> Result<u64, Refused> {
+    if !(1..=64).contains(&n) || m > 8 {
+        return Err(SIZES);
+    }
+    if pack.len() % 8 != 0 || pack.len() > 8192 {
+        return Err(PACK);
+    }
+    let count = pack.len() / 8;
+    for place in 0..count {
+        if !record_good(n, m, record(pack, place)) {
+            return Err(record_at(place));
+        }
+    }
+    Ok(count as u64)
+}
+
+/// Numbers 1 to 5, or the record count.
+pub fn check_question(q: &Question) -> Result<u64, Refused> {
+    let count = check_pack(q.n, q.m, &q.pack)?;
+    if q.marks.len() != 128 || (count as usize..1024).any(|place| marked(&q.marks, place)) {
+        return Err(MARKS);
+    }
+    if q.a >= q.n || q.b >= q.n {
+        return Err(GOAL);
+    }
+    Ok(count)
+}
+
+/// Bit i mod 64 of word i div 64; the 16 words lie little-endian in 128 bytes.
+pub fn marked(marks: &[u8], place: usize) -> bool {
+    if place >= 1024 {
+        return false;
+    }
+    let at = 8 * (place / 64);
+    let word = u64::from_le_bytes(marks[at..at + 8].try_into().expect("8 bytes"));
+    word >> (place % 64) & 1 == 1
+}
+
+#[cfg(test)]
+mod tests {
+    use super::*;
+    use crate::packs;
+
+    #[test]
+    fn the_valve_pack_has_six_records() {
+        let q = packs::valve(0, 1);
+        assert_eq!(check_pack(q.n, q.m, &q.pack), Ok(6));
+        assert_eq!(check_question(&q), Ok(6));
+    }
+
+    #[test]
+    fn the_lowest_number_is_given() {
+        let mut q = packs::valve(5, 1);
+        assert_eq!(check_question(&q), Err(GOAL));
+        q.marks[0] = 0x40;
+        assert_eq!(check_question(&q), Err(MARKS));
+        q.pack[8] = 7;
+        q.pack[24] = 0;
+        assert_eq!(check_question(&q), Err(record_at(1)));
+        q.pack.pop();
+        assert_eq!(check_question(&q), Err(PACK));
+        q.m = 9;
+        assert_eq!(check_question(&q), Err(SIZES));
+    }
+
+    #[test]
+    fn marks_are_little_endian_words() {
+        let mut marks = [0u8; 128];
+        marks[127] = 0x80;
+        marks[8] = 0x02;
+        let set: Vec<usize> = (0..2000).filter(|&place| marked(&marks, place)).collect();
+        assert_eq!(set, [65, 1023]);
+    }
+
+    #[test]
+    fn the_two_ways_to_return_a_number() {
+        assert_eq!(sheet_code(Ok(())), 0);
+        assert_eq!(sheet_code(Err(step_at(3))), 10 + 48);
+        assert_eq!(desk_code(Ok(6)), 0x600);
+        assert_eq!(desk_code(Err(record_at(1))), 0x103);
+    }
+}
