@@ -21,7 +21,6 @@ use Rattle.pack.proofs.Soundness.{free-self}
 use Rattle.passes.specs.Passes.{InRange, table, verdict}
 use Rattle.passes.specs.Rows.{row}
 use Rattle.passes.specs.Ours.{ourRows}
-
 use Rattle.passes.proofs.Exact.{ClosedTable, closed-agrees, table-obeys}
 use Rattle.passes.proofs.PassLaws.{table-exact}
 use Rattle.passes.proofs.RowLaws.{row-lt, row-has}

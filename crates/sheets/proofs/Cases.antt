@@ -18,20 +18,20 @@ use Rattle.sheets.specs.NoSheet.{rowAt, forbidden, lowestForbidden, lowe
 use Rattle.sheets.specs.YesSheet.{stepsOf, concluded, known, usable, goodOver, goodAt, lowestBad, checkSteps, checkYes}
 
 -- a record of statement 0, and a step at a place below 256
-pub recordBytes : ℕ → ℕ → ℕ → ℕ → List ℕ
+unfoldable pub recordBytes : ℕ → ℕ → ℕ → ℕ → List ℕ
 recordBytes kind a b c = kind ∷ a ∷ b ∷ c ∷ 0 ∷ 0 ∷ 0 ∷ 0 ∷ []
 
-pub stepBytes : ℕ → ℕ → ℕ → ℕ → List ℕ
+unfoldable pub stepBytes : ℕ → ℕ → ℕ → ℕ → List ℕ
 stepBytes place x y z = place ∷ 0 ∷ x ∷ y ∷ z ∷ 0 ∷ 0 ∷ 0 ∷ []
 
 -- the valve pack, all of it marked, and C3's sheet from its second step on
-pub valve : List ℕ
+unfoldable pub valve : List ℕ
 valve = recordBytes 3 0 0 2 ++ recordBytes 3 2 1 3 ++ recordBytes 6 0 1 0 ++ recordBytes 4 0 3 1 ++ recordBytes 1 0 4 0 ++ recordBytes 1 4 1 0
 
-pub allSix : List ℕ
+unfoldable pub allSix : List ℕ
 allSix = 63 ∷ replicate 15 0
 
-pub later : List ℕ
+unfoldable pub later : List ℕ
 later = stepBytes 1 2 0 0 ++ stepBytes 2 0 2 3 ++ stepBytes 3 0 3 0
 
 -- C11: WITHOUT ITS FIRST STEP, STEP AT 1; and whole, accepted
@@ -42,13 +42,13 @@ unfolding
 c11 = (refl, refl)
 
 -- one record "0 under 1" and a world of one thing
-pub oneUnder : List ℕ
+unfoldable pub oneUnder : List ℕ
 oneUnder = recordBytes 1 0 1 0
 
-pub one : List ℕ
+unfoldable pub one : List ℕ
 one = 1 ∷ replicate 15 0
 
-pub worldOfOne : ℕ → List ℕ
+unfoldable pub worldOfOne : ℕ → List ℕ
 worldOfOne row = row ∷ 0 ∷ 0 ∷ 0 ∷ 0 ∷ 0 ∷ 0 ∷ 0 ∷ []
 
 -- C12: ROW 00 SHOWS NOTHING, ROW 01 BREAKS RECORD 0

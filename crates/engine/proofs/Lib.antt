@@ -1,0 +1,8 @@
+-- The laws of the engine: the goal's step, runs that may stop, the verdict, bytes, the writer; that our sheets are accepted; C1 to C12.
+pub mod GoalLaws
+pub mod RunLaws
+pub mod VerdictLaws
+pub mod BytesLaws
+pub mod WriteLaws
+pub mod OursLaws
+pub mod Cases

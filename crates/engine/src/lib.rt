@@ -1,0 +1,4 @@
+// The engine: passes over the rows, the verdict, and the writers of our sheets.
+pub mod run;
+pub mod verdict;
+pub mod write;
