@@ -1,8 +1,11 @@
 # make test: the whole gate. make run: the desk on the valve pack. make speed: the measurements.
 
+SHELL = bash
 LIBRARIES = sheets desk
 ARCHIVES = $(LIBRARIES:%=target/staticlib/lib%.a)
 SOURCES = crates.txt $(shell find crates -name must-fail -prune -o -type f -print)
+# Sets CC, CARGO, RUN and EMULATED for the rest of a recipe's line.
+PLATFORM = . tools/platform
 
 .PHONY: test run speed clean
 # Two provers would get in each other's way.
@@ -12,14 +15,14 @@ test:
 	@tools/gate
 
 run: build/desk
-	@build/desk
+	@$(PLATFORM) && $$RUN build/desk
 
 speed: $(ARCHIVES)
-	@cd speed && cargo run --quiet --offline --release
+	@$(PLATFORM) && cd speed && "$$CARGO" run --quiet --offline --release -- $$EMULATED
 
-build/desk: examples/desk.c include/noolukask.h $(ARCHIVES)
+build/desk: examples/desk.c examples/guarded.h include/noolukask.h $(ARCHIVES)
 	@mkdir -p build
-	gcc -O2 -Wall -Wextra -Werror -Iinclude examples/desk.c $(ARCHIVES) -o $@
+	@$(PLATFORM) && set -x && "$$CC" -O2 -Wall -Wextra -Werror -Iinclude -Iexamples examples/desk.c $(ARCHIVES) -o $@
 
 target/staticlib/lib%.a: $(SOURCES)
 	rt staticlib $*

@@ -5,9 +5,9 @@
  */
 #include <inttypes.h>
 #include <stdio.h>
-#include <stdlib.h>
 #include <string.h>
 
+#include "guarded.h"
 #include "noolukask.h"
 
 /* Five concepts (valve repair, heart procedure, valve, heart, open chest repair), two roles. */
@@ -78,13 +78,7 @@ static void say(const char *what, uint64_t back)
 /* A copy in a buffer of just its size, as a sheet arrives from somebody else. */
 static uint8_t *copy_of(const uint8_t *bytes, size_t len)
 {
-    uint8_t *copy = malloc(len);
-    if (copy == NULL) {
-        perror("desk");
-        exit(1);
-    }
-    memcpy(copy, bytes, len);
-    return copy;
+    return memcpy(guarded(len), bytes, len);
 }
 
 int main(void)
@@ -94,11 +88,7 @@ int main(void)
     uint8_t *yes = copy_of(yes_sheet, sizeof yes_sheet);
     uint8_t *damaged = copy_of(yes_sheet, sizeof yes_sheet);
     size_t yes_len = sizeof yes_sheet, no_len = 8 * sizeof no_rows;
-    uint8_t *no = calloc(sizeof no_rows, 8);
-    if (no == NULL) {
-        perror("desk");
-        return 1;
-    }
+    uint8_t *no = guarded(no_len);
     for (size_t row = 0; row < sizeof no_rows; row++)
         no[8 * row] = no_rows[row];
 
@@ -135,10 +125,10 @@ int main(void)
     say("  the yes sheet's bytes as a no sheet for (0,1)", CHECK(no, 0, 1, yes, yes_len));
     say("  the no sheet's bytes as a yes sheet for (2,1)", CHECK(yes, 2, 1, no, no_len));
 
-    free(no);
-    free(damaged);
-    free(yes);
-    free(marks);
-    free(pack);
+    unguard(no, no_len);
+    unguard(damaged, yes_len);
+    unguard(yes, yes_len);
+    unguard(marks, sizeof all_marked);
+    unguard(pack, sizeof valve_pack);
     return 0;
 }

@@ -8,7 +8,6 @@ mod inputs;
 use noolukask_tests::calls::raw;
 use noolukask_tests::rng::Rng;
 use noolukask_tests::rules::Question;
-use std::hint::black_box;
 use std::time::Instant;
 
 fn ours_yes(q: &Question, sheet: &[u8]) -> u64 {
@@ -42,10 +41,13 @@ fn rust_pack(q: &Question, _: &[u8]) -> u64 {
 
 type Check = fn(&Question, &[u8]) -> u64;
 
-/// One run: nanoseconds, with the result compared.
+/// One run: nanoseconds, with the result compared. The compiler cannot know which check it will be,
+/// and so can neither leave the call out nor move it.
 fn time(check: Check, q: &Question, sheet: &[u8], expected: u64) -> u128 {
+    // SAFETY: the pointer is of a value that may be copied.
+    let check = unsafe { std::ptr::read_volatile(&check) };
     let start = Instant::now();
-    let back = black_box(check(black_box(q), black_box(sheet)));
+    let back = check(q, sheet);
     let taken = start.elapsed().as_nanos();
     assert_eq!(back, expected);
     taken
@@ -67,9 +69,15 @@ fn measure(what: &str, ours: Check, rust: Check, (q, sheet): (Question, Vec<u8>)
 }
 
 fn main() {
+    let emulated = std::env::args().nth(1).as_deref() == Some("emulated");
     let mut rng = Rng::new(36);
     println!("Least time of many runs in turn; warm buffers, not cleared between runs; n = 64, m = 8.");
-    println!("{:<58} {:>10} {:>10} {:>6}", "what", "ours (ns)", "Rust (ns)", "ratio");
+    if emulated {
+        println!("EMULATED: both ran under one emulator of x86-64. The times are no measurements of this");
+        println!("machine; the ratios compare two emulated programs, and those of x86-64 itself may differ.");
+    }
+    let ratio = if emulated { "ratio (emulated)" } else { "ratio" };
+    println!("{:<58} {:>10} {:>10} {:>6}", "what", "ours (ns)", "Rust (ns)", ratio);
     let sheet = inputs::long_yes_sheet(&mut rng);
     measure("yes check, 36,000 steps, 1,024 records", ours_yes, fast::check_yes, sheet, 0, 400);
     let sheet = inputs::staircase_no_sheet(&mut rng);

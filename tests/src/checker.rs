@@ -134,9 +134,7 @@ impl World {
 pub fn check_no(q: &Question, sheet: &[u8]) -> Result<(), Refused> {
     let count = check_question(q)? as usize;
     let m = q.m as usize;
-    let Some(k) = (1..=64).find(|k| sheet.len() == 8 * k * (1 + m)) else {
-        return Err(LENGTH);
-    };
+    let k = (1..=64).find(|k| sheet.len() == 8 * k * (1 + m)).ok_or(LENGTH)?;
     let row = |bytes: &[u8]| u64::from_le_bytes(bytes.try_into().expect("8 bytes"));
     let world = World { k, rows: sheet.chunks_exact(8).map(row).collect() };
     for (i, &row) in world.rows.iter().enumerate() {

@@ -70,8 +70,9 @@ impl Trial {
 
 /// Two threads, one seed each, until both have reached half of the sheets.
 pub fn on_two_threads(sheets: u64, run: fn(seed: u64, sheets: u64) -> Trial) -> Trial {
+    let half = (sheets + 1) / 2;
     std::thread::scope(|scope| {
-        let other = scope.spawn(|| run(2, sheets.div_ceil(2)));
-        run(1, sheets.div_ceil(2)).join(other.join().expect("the other thread's sheets"))
+        let other = scope.spawn(move || run(2, half));
+        run(1, half).join(other.join().expect("the other thread's sheets"))
     })
 }
