@@ -2,6 +2,7 @@
 pub mod GoalLaws
 pub mod RunLaws
 pub mod VerdictLaws
+pub mod CompleteLaws
 pub mod BytesLaws
 pub mod WriteLaws
 pub mod OursLaws
