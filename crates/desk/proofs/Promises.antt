@@ -3,10 +3,20 @@ use mathlib.Core.Path.{_≡_}
 use mathlib.Core.List.{List}
 use Prim.Native.Nat.{ℕ}
 use Rattle.bits.proofs.Promises.{no-second}
-use Rattle.desk.specs.Desk.{packCode, questionCode}
+use Rattle.pack.specs.Bytes.{marksIn}
+use Rattle.engine.specs.Sheet.{writtenSheet}
+use Rattle.desk.specs.Desk.{packCode, questionCode, verdictCode, sheetCode}
 
 pub check-pack-call-fixed : (n m : ℕ) (s : List ℕ) (r r′ : ℕ) → r ≡ packCode n m s → r′ ≡ packCode n m s → r ≡ r′
 check-pack-call-fixed n m s r r′ = no-second
 
 pub check-question-call-fixed : (n m : ℕ) (s marks : List ℕ) (a b r r′ : ℕ) → r ≡ questionCode n m s marks a b → r′ ≡ questionCode n m s marks a b → r ≡ r′
 check-question-call-fixed n m s marks a b r r′ = no-second
+
+pub verdict-call-fixed : (n m : ℕ) (s marks : List ℕ) (a b r r′ : ℕ) → r ≡ verdictCode n m s marks a b → r′ ≡ verdictCode n m s marks a b → r ≡ r′
+verdict-call-fixed n m s marks a b r r′ = no-second
+
+pub sheet-call-fixed : (n m : ℕ) (s marks : List ℕ) (a b : ℕ) (sheet sheet₁ sheet₂ : List ℕ) (r r′ : ℕ)
+    → (r ≡ sheetCode n m s marks a b sheet) × (sheet₁ ≡ writtenSheet n m s (marksIn marks) a b sheet)
+    → (r′ ≡ sheetCode n m s marks a b sheet) × (sheet₂ ≡ writtenSheet n m s (marksIn marks) a b sheet) → (r ≡ r′) × (sheet₁ ≡ sheet₂)
+sheet-call-fixed n m s marks a b sheet sheet₁ sheet₂ r r′ p q = (no-second (p .0) (q .0), no-second (p .1) (q .1))

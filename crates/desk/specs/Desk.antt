@@ -1,10 +1,15 @@
 -- What the calls for C return: the table's number in the low byte (0: none), and the value above it.
 use Prim.Native.Nat.{ℕ, _+_, _*_}
 use mathlib.Core.List.{List}
-use Rattle.pack.specs.Answers.{checkedNumber, checkedValue}
+use Rattle.pack.specs.Answers.{refusalPlace, checkedNumber, checkedValue}
 use Rattle.pack.specs.Bytes.{marksIn}
 use Rattle.pack.specs.Pack.{checkPack}
 use Rattle.pack.specs.Question.{checkQuestion}
+use Rattle.engine.specs.declared.write.SheetAnswer.{SheetAnswer}
+use Rattle.engine.specs.declared.write.SheetAnswer.the-variants as answer
+use Rattle.engine.specs.Answers.{verdictNumber, verdictValue, sheetNumber}
+use Rattle.engine.specs.Sheet.{askSheet}
+use Rattle.engine.specs.Verdict.{askVerdict}
 
 abbrev pub deskCode : ℕ → ℕ → ℕ
 deskCode number value = number + 256 * value
@@ -15,3 +20,19 @@ packCode n m s = deskCode (checkedNumber (checkPack n m s)) (checkedValue (check
 unfoldable pub questionCode : ℕ → ℕ → List ℕ → List ℕ → ℕ → ℕ → ℕ
 questionCode n m s marks a b =
     deskCode (checkedNumber (checkQuestion n m s (marksIn marks) a b)) (checkedValue (checkQuestion n m s (marksIn marks) a b))
+
+unfoldable pub verdictCode : ℕ → ℕ → List ℕ → List ℕ → ℕ → ℕ → ℕ
+verdictCode n m s marks a b =
+    deskCode (verdictNumber (askVerdict n m s (marksIn marks) a b)) (verdictValue (askVerdict n m s (marksIn marks) a b))
+
+-- of the sheet writer: the count of steps doubled and one more, or the count of rows doubled
+abbrev pub sheetValueC : SheetAnswer → ℕ
+sheetValueC (answer.Refused why) = refusalPlace why
+sheetValueC answer.TooLong = 0
+sheetValueC (answer.NoRoom k) = k
+sheetValueC (answer.Follows k) = 2 * k + 1
+sheetValueC (answer.Not k) = 2 * k + 0
+
+unfoldable pub sheetCode : ℕ → ℕ → List ℕ → List ℕ → ℕ → ℕ → List ℕ → ℕ
+sheetCode n m s marks a b sheet =
+    deskCode (sheetNumber (askSheet n m s (marksIn marks) a b sheet)) (sheetValueC (askSheet n m s (marksIn marks) a b sheet))

@@ -1,7 +1,15 @@
 // The calls for C, on numbers and byte slices: each is the Rattle call of its name, and an encoding of what it answers.
 ghost use mathlib.Core.Path.{_≡_};
 ghost use Rattle.pack.specs.Answers.{checkedNumber, checkedValue};
-ghost use Rattle.desk.specs.Desk.{deskCode, packCode, questionCode};
+ghost use Prim.Native.Nat.{_+_, _*_, _≤_};
+ghost use Rattle.pack.specs.Bytes.{marksIn};
+ghost use Rattle.engine.specs.Answers.{verdictNumber, verdictValue, sheetNumber};
+ghost use Rattle.engine.specs.Sheet.{writtenSheet};
+ghost use Rattle.desk.specs.Desk.{deskCode, packCode, questionCode, verdictCode, sheetValueC, sheetCode};
+use engine::verdict::VerdictAnswer;
+use engine::verdict::verdict;
+use engine::write::SheetAnswer;
+use engine::write::write_sheet;
 use pack::bytes::read_marks;
 use pack::check::Checked;
 use pack::check::check_pack;
@@ -59,4 +67,94 @@ pub extern "C" fn noolukask_check_question<'a>(
     }
     let none = [0u64; 0];
     checked_code(check_question(n as usize, m as usize, pack, &none, a as usize, b as usize))
+}
+
+// What the verdict call returns.
+fn verdict_code(answer: VerdictAnswer) -> u64
+    ensures { λ r. ⌜ r ≡ deskCode (verdictNumber answer) (verdictValue answer) ⌝ }
+{
+    match answer {
+        VerdictAnswer::Refused(why) => desk_code(refusal_number(why), refusal_place(why)),
+        VerdictAnswer::TooLong => desk_code(6, 0),
+        VerdictAnswer::Follows => desk_code(0, 1),
+        VerdictAnswer::Not => desk_code(0, 0),
+    }
+}
+
+// The verdict for C.
+#[no_mangle]
+pub extern "C" fn noolukask_verdict<'a>(
+    n: u64,
+    m: u64,
+    pack: &'a [u8],
+    marks: &'a [u8],
+    a: u64,
+    b: u64,
+) -> u64
+    ensures { λ r. ⌜ r ≡ verdictCode n m (now (pack .entry)) (now (marks .entry)) a b ⌝ }
+{
+    if marks.len() == 128 {
+        let words = read_marks(marks);
+        return verdict_code(verdict(n as usize, m as usize, pack, &words, a as usize, b as usize));
+    }
+    let none = [0u64; 0];
+    verdict_code(verdict(n as usize, m as usize, pack, &none, a as usize, b as usize))
+}
+
+// The sort and the count of parts in one value: 2 · count + 1 for a yes sheet, 2 · count for a no sheet.
+fn parts_code(count: u32, yes: u32) -> u64
+    requires { ⌜ yes ≤ 1 ⌝ }
+    ensures { λ r. ⌜ r ≡ deskCode 0 (2 * count + yes) ⌝ }
+{
+    256 * (2 * (count as u64) + yes as u64)
+}
+
+// What the sheet writer's call returns.
+fn sheet_code(answer: SheetAnswer) -> u64
+    ensures { λ r. ⌜ r ≡ deskCode (sheetNumber answer) (sheetValueC answer) ⌝ }
+{
+    match answer {
+        SheetAnswer::Refused(why) => desk_code(refusal_number(why), refusal_place(why)),
+        SheetAnswer::TooLong => desk_code(6, 0),
+        SheetAnswer::NoRoom(bytes) => desk_code(8, bytes),
+        SheetAnswer::Follows(steps) => parts_code(steps, 1),
+        SheetAnswer::Not(rows) => parts_code(rows, 0),
+    }
+}
+
+// The sheet writer for C.
+#[no_mangle]
+pub extern "C" fn noolukask_write_sheet<'a>(
+    n: u64,
+    m: u64,
+    pack: &'a [u8],
+    marks: &'a [u8],
+    a: u64,
+    b: u64,
+    sheet: &mut [u8],
+) -> u64
+    ensures { λ r. ⌜ (r ≡ sheetCode n m (now (pack .entry)) (now (marks .entry)) a b (now (sheet .entry))) × (now (sheet .exit) ≡ writtenSheet n m (now (pack .entry)) (marksIn (now (marks .entry))) a b (now (sheet .entry))) ⌝ }
+{
+    if marks.len() == 128 {
+        let words = read_marks(marks);
+        return sheet_code(write_sheet(
+            n as usize,
+            m as usize,
+            pack,
+            &words,
+            a as usize,
+            b as usize,
+            sheet,
+        ));
+    }
+    let none = [0u64; 0];
+    sheet_code(write_sheet(
+        n as usize,
+        m as usize,
+        pack,
+        &none,
+        a as usize,
+        b as usize,
+        sheet,
+    ))
 }
