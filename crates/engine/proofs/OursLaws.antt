@@ -2,15 +2,15 @@
 use mathlib.Core.Path.{_≡_, refl, sym, ap, ap₂, _∙_, subst, fun-ext}
 use mathlib.Core.Logic.{_↔_, _⊎_, inl, inr}
 use mathlib.Core.Bool.{Bool, true, false, cond, _&&_}
-use mathlib.Core.List.{List, _++_, map, flatten, reverse}
+use mathlib.Core.List.{List, map, flatten}
 use Prim.Native.Nat.{ℕ, _+_, _*_, _/_, _%_, _≤_, _<_}
 use native.Mathlib.Nat.{mul-left-comm, mul-div-cancel, mul-mod-left}
 use native.Mathlib.Omega.{arith}
 use lib.Dec.{eqb, ltb, leb}
-use lib.ListN.{length, getD, take, drop, length-reverse}
+use lib.ListN.{length, getD, take, drop}
 use lib.Pow.{pow-mono}
 use lib.Seq.{take-at}
-use borrow.Author.Tests.{eq-eqb, le-leb, le-ltb, leb-true, leb-false}
+use borrow.Author.Tests.{eq-eqb, le-leb, leb-true, leb-false}
 use Rattle.bits.specs.Bit.{has}
 use Rattle.bits.proofs.BitLaws.{has-high}
 use Rattle.bits.proofs.Promises.{no-second}
@@ -23,12 +23,9 @@ use Rattle.pack.specs.declared.line.Step.{Step}
 use Rattle.pack.specs.Bytes.{part}
 use Rattle.pack.specs.Marks.{counted}
 use Rattle.pack.specs.Question.{checkQuestion}
-use Rattle.pack.specs.Record.{linesOf, Valid}
-use Rattle.pack.specs.Rules.{free}
+use Rattle.pack.specs.Record.{linesOf}
 use Rattle.pack.specs.World.{World, Is, Obeys, Follows}
-use Rattle.pack.proofs.QuestionLaws.{Asked, asked}
-use Rattle.pack.proofs.RecordLaws.{lines-length, lines-valid}
-use Rattle.pack.proofs.Soundness.{free-self}
+use Rattle.pack.proofs.RecordLaws.{lines-length}
 use Rattle.sheets.specs.declared.yes.YesAnswer.the-variants as yes
 use Rattle.sheets.specs.declared.no.NoAnswer.the-variants as no
 use Rattle.sheets.specs.YesSheet.{stepIn, zerosIn, stepsOf, known, goodOver, goodAt, checkYes}
@@ -38,34 +35,18 @@ use Rattle.sheets.proofs.NoLaws.{no-accepts}
 use Rattle.sheets.proofs.Verdicts.{never-both}
 use Rattle.passes.specs.Passes.{finished}
 use Rattle.passes.specs.Ours.{ourSteps, ourRows}
-use Rattle.passes.proofs.PassLaws.{finished-most, decides, not-free-most}
+use Rattle.passes.proofs.PassLaws.{decides, not-free-most}
 use Rattle.passes.proofs.YesLaws.{ours-good, ours-small, ours-known, ours-most}
 use Rattle.passes.proofs.NoLaws.{rows-length, rows-small, ourWorld, rows-obey, rows-refute}
-use Rattle.sweep.specs.Writing.{stepBytes, withSteps}
+use Rattle.sweep.specs.Writing.{stepBytes}
 use Rattle.engine.specs.declared.verdict.VerdictAnswer.{VerdictAnswer}
 use Rattle.engine.specs.declared.verdict.VerdictAnswer.the-variants as verdicts
 use Rattle.engine.specs.declared.write.SheetAnswer.{SheetAnswer}
 use Rattle.engine.specs.declared.write.SheetAnswer.the-variants as sheets
-use Rattle.engine.specs.Verdict.{tooLong, follows, askVerdict}
-use Rattle.engine.specs.Sheet.{wordBytes, yesBytes, noBytes, ourSheet, sheetAnswer, sheetAfter, askSheet, sheetLeft, writtenSheet}
-use Rattle.engine.proofs.BytesLaws.{parts-length, parts-all, zeros-in, step-in, steps-of, word-length, rows-of, with-steps}
-
--- the bytes of our sheets: 8 for each step or row
-pub yes-length : (n m : ℕ) (s ws : List ℕ) (a b : ℕ) → length (yesBytes n m s ws a b) ≡ 8 * length (ourSteps (linesOf s) (counted s ws) n m a b)
-unfolding yesBytes
-yes-length n m s ws a b = parts-length stepBytes (λ s. refl) (ourSteps (linesOf s) (counted s ws) n m a b)
-
-pub no-length : (n m : ℕ) (s ws : List ℕ) → length (noBytes n m s ws) ≡ 8 * length (ourRows (linesOf s) (counted s ws) n m)
-unfolding noBytes
-no-length n m s ws = parts-length wordBytes word-length (ourRows (linesOf s) (counted s ws) n m)
-
--- the sheet with our steps in it is our yes sheet, and the rest as it was
-pub ours-written : (n m : ℕ) (s ws : List ℕ) (a b : ℕ) (blank : List ℕ) (st : List Step) → ourSteps (linesOf s) (counted s ws) n m a b ≡ reverse st → 8 * length st ≤ length blank
-    → withSteps blank st ≡ yesBytes n m s ws a b ++ drop (length (yesBytes n m s ws a b)) blank
-unfolding yesBytes
-ours-written n m s ws a b blank st e h =
-    let l : length (yesBytes n m s ws a b) ≡ 8 * length st = yes-length n m s ws a b ∙ ap (λ (ss : List Step). 8 * length ss) e ∙ ap (λ (k : ℕ). 8 * k) (length-reverse st) in
-    rw (l, e) (with-steps blank st h)
+use Rattle.engine.specs.Verdict.{follows, askVerdict}
+use Rattle.engine.specs.Sheet.{yesBytes, noBytes, ourSheet, sheetAnswer, sheetAfter, askSheet, sheetLeft, writtenSheet}
+use Rattle.engine.proofs.VerdictLaws.{question, valid, too-long-never}
+use Rattle.engine.proofs.BytesLaws.{parts-length, parts-all, zeros-in, step-in, steps-of, rows-of, yes-length, no-length}
 
 -- the world that the bytes of our rows describe is the one of our rows
 module _ (n m : ℕ) (s ws : List ℕ) (few : n ≤ 64) where
@@ -116,29 +97,14 @@ SomeNo n m s ws a b = (sheet : List ℕ) × (checkNo n m s ws a b sheet ≡ no.A
 
 -- a question that is taken
 module _ (n m : ℕ) (s ws : List ℕ) (a b : ℕ) {k : ℕ} (taken : checkQuestion n m s ws a b ≡ checked.Count k) where
-  ask : Asked n m s ws a b k
-  ask = asked n m s ws a b taken
-
-  valid : Valid n m (linesOf s)
-  valid = lines-valid n m s (ask .pack .all)
-
-  -- SIX IS NEVER ANSWERED: the passes cannot add over 36,800 facts
-  pub too-long-never : tooLong n m s ws ≡ false
-  unfolding tooLong
-  too-long-never =
-      let ls = linesOf s in
-      let S = counted s ws in
-      le-ltb 36800 (length (finished ls S n m))
-      (omega (arith, finished-most (free n) ls S n m valid (free-self n), not-free-most n m (ask .pack .n-most) (ask .pack .m-most)))
-
   -- THE PASSES ARE RIGHT: finished, they hold the goal exactly when it follows
   pub follows-right : (follows n m s ws a b ≡ true) ↔ Follows (linesOf s) (counted s ws) a b
   unfolding follows
-  follows-right = decides (linesOf s) (counted s ws) n m valid (ask .pack .n-some) a b (ask .goalA)
+  follows-right = decides (linesOf s) (counted s ws) n m (valid n m s ws a b taken) (question n m s ws a b taken .pack .n-some) a b (question n m s ws a b taken .goalA)
 
   verdict-is : askVerdict n m s ws a b ≡ cond (follows n m s ws a b) verdicts.Follows verdicts.Not
   unfolding askVerdict
-  verdict-is = rw (taken, too-long-never)
+  verdict-is = rw (taken, (too-long-never n m s ws a b taken))
 
   -- THE VERDICT IS RIGHT: FOLLOWS exactly when the goal follows, NOT exactly when it does not
   pub verdict-right : ((askVerdict n m s ws a b ≡ verdicts.Follows) ↔ Follows (linesOf s) (counted s ws) a b) × ((askVerdict n m s ws a b ≡ verdicts.Not) ↔ (Follows (linesOf s) (counted s ws) a b → ⊥))
@@ -159,12 +125,12 @@ module _ (n m : ℕ) (s ws : List ℕ) (a b : ℕ) {k : ℕ} (taken : checkQuest
       let sheet = flatten (map stepBytes ss) in
       let d : Step = record { place = 0; x = 0; y = 0; z = 0 } in
       let l = parts-length stepBytes (λ s. refl) ss in
-      let most = ours-most ls S n m a b valid (ask .goalA) h in
-      let few = not-free-most n m (ask .pack .n-most) (ask .pack .m-most) in
-      let size = ask .pack .size in
+      let most = ours-most ls S n m a b (valid n m s ws a b taken) (question n m s ws a b taken .goalA) h in
+      let few = not-free-most n m (question n m s ws a b taken .pack .n-most) (question n m s ws a b taken .pack .m-most) in
+      let size = question n m s ws a b taken .pack .size in
       let lines = lines-length s in
       let small : (i : ℕ) → i < length ss → getD ss i d .place < 65536 =
-      λ i g. (let p = ours-small ls S n m a b valid (ask .goalA) h i d g .place-there in omega arith) in
+      λ i g. (let p = ours-small ls S n m a b (valid n m s ws a b taken) (question n m s ws a b taken .goalA) h i d g .place-there in omega arith) in
       let all : stepsOf sheet ≡ ss = steps-of ss d small in
       yes-accepts n m s ws a b sheet taken
       (true-and (eqb (length sheet % 8) 0) (leb (length sheet) 524288) (eq-eqb (length sheet % 8) 0 (omega arith)) (le-leb (length sheet) 524288 (omega arith)))
@@ -174,8 +140,8 @@ module _ (n m : ℕ) (s ws : List ℕ) (a b : ℕ) {k : ℕ} (taken : checkQuest
       true-and (zerosIn (part sheet i)) (goodOver ls S n (known ls n (take i (stepsOf sheet))) (stepIn (part sheet i)))
       (ap zerosIn p ∙ zeros-in (getD ss i d))
       (ap₂ (λ (before : List Step) (step : Step). goodOver ls S n (known ls n (take i before)) step) all (ap stepIn p ∙ step-in (getD ss i d) (small i there))
-      ∙ ours-good ls S n m a b valid (ask .goalA) h i d there))
-      (ap (λ (steps : List Step). known ls n steps (In a b)) all ∙ ours-known ls S n m a b valid (ask .goalA) h)
+      ∙ ours-good ls S n m a b (valid n m s ws a b taken) (question n m s ws a b taken .goalA) h i d there))
+      (ap (λ (steps : List Step). known ls n steps (In a b)) all ∙ ours-known ls S n m a b (valid n m s ws a b taken) (question n m s ws a b taken .goalA) h)
 
   -- and our no sheet where it does not
   pub ours-no : follows n m s ws a b ≡ false → checkNo n m s ws a b (noBytes n m s ws) ≡ no.Accepted
@@ -183,13 +149,13 @@ module _ (n m : ℕ) (s ws : List ℕ) (a b : ℕ) {k : ℕ} (taken : checkQuest
   ours-no h =
       let ls = linesOf s in
       let S = counted s ws in
-      let few = ask .pack .n-most in
-      let there = ask .goalA in
+      let few = question n m s ws a b taken .pack .n-most in
+      let there = question n m s ws a b taken .goalA in
       let world = sym (no-world n m s ws few) in
       let things = no-things n m s ws few in
-      let goal = rows-refute ls S n m valid a b (ask .goalA) (ask .goalB) h in
-      no-accepts n m s ws a b (noBytes n m s ws) taken (no-fits n m s ws few (ask .pack .n-some)) (λ i _. no-clean n m s ws few i)
-      (subst (λ (w : World). Obeys w ls S) world (rows-obey ls S n m valid))
+      let goal = rows-refute ls S n m (valid n m s ws a b taken) a b (question n m s ws a b taken .goalA) (question n m s ws a b taken .goalB) h in
+      no-accepts n m s ws a b (noBytes n m s ws) taken (no-fits n m s ws few (question n m s ws a b taken .pack .n-some)) (λ i _. no-clean n m s ws few i)
+      (subst (λ (w : World). Obeys w ls S) world (rows-obey ls S n m (valid n m s ws a b taken)))
       a (omega arith)
       (subst (λ (w : World). Is w a a) world (goal .0))
       (subst (λ (w : World). w .isIn a b ≡ false) world (goal .1))

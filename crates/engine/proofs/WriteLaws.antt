@@ -2,12 +2,12 @@
 use mathlib.Core.Path.{_≡_, refl, sym, ap, _∙_}
 use mathlib.Core.Bool.{Bool, true, false, cond}
 use mathlib.Core.List.{List, [], _∷_, _++_, map, flatten, reverse, append-assoc, append-nil}
-use Prim.Native.Nat.{ℕ, zero, suc, _+_, _-_, _*_, _/_, _%_, _^_, _≤_, _<_}
+use Prim.Native.Nat.{ℕ, _+_, _-_, _*_, _/_, _%_, _^_, _≤_, _<_}
 use native.Mathlib.Decide.{decLt}
 use native.Mathlib.Nat.{zero-add, mul-comm, mul-add, mul-one, mod-lt, div-add-mod', div-lt-iff-lt-mul}
 use native.Mathlib.Numerals.{add-one}
 use native.Mathlib.Omega.{arith}
-use lib.ListN.{length, getD, take, drop, length-append, length-drop, length-reverse, drop-of-length-le}
+use lib.ListN.{length, getD, drop, length-append, length-drop, length-reverse, drop-of-length-le}
 use lib.Seq.{take-at, drop-append-add, drop-drop, ext-getD}
 use lib.Dec.{leb}
 use borrow.Author.Tests.{le-leb, lt-leb, lt-ltb, le-ltb, eq-eqb}
@@ -43,8 +43,8 @@ use Rattle.engine.specs.declared.write.SheetAnswer.the-variants as answe
 use Rattle.engine.specs.Sheet.{wordBytes, yesBytes, noBytes, ourSheet, sheetAnswer, sheetLeft, askSheet, writtenSheet}
 use Rattle.engine.specs.Verdict.{follows}
 use Rattle.engine.specs.Inner.{Ran, rowIn, rowsBytes}
-use Rattle.engine.proofs.VerdictLaws.{question, not-too-long, end-held, end-not}
-use Rattle.engine.proofs.BytesLaws.{parts-length, parts-more, word-length, with-steps}
+use Rattle.engine.proofs.VerdictLaws.{question, too-long-never, end-held, end-not}
+use Rattle.engine.proofs.BytesLaws.{parts-length, parts-more, word-length, with-steps, yes-length, no-length}
 
 module _ (n : ℕ) (cs lks : List ℕ) where
   -- the bytes of the first i rows, and what stands after them
@@ -102,7 +102,7 @@ module _ (n m : ℕ) (s ws : List ℕ) (a b : ℕ) {c : ℕ} (taken : checkQuest
     unfolding askSheet
     asked-parts =
         let d : parts * 8 / 8 ≡ parts = omega arith in
-        rw (taken, not-too-long n m s ws a b taken, said, sym is, long, d)
+        rw (taken, too-long-never n m s ws a b taken, said, sym is, long, d)
 
     pub too-short : length sheet < parts * 8 → Answers (answer.NoRoom (parts * 8)) sheet
     unfolding writtenSheet
@@ -183,10 +183,6 @@ module _ (n m : ℕ) (ls : List Line) (S : ℕ → Bool) (blank cs lks sheet : L
 
 -- the sheets of a question that is taken
 module _ (n m : ℕ) (s ws : List ℕ) (a b : ℕ) {c : ℕ} (taken : checkQuestion n m s ws a b ≡ checked.Count c) (sheet : List ℕ) where
-  yes-long : length (yesBytes n m s ws a b) ≡ length (ourSteps (linesOf s) (counted s ws) n m a b) * 8
-  unfolding yesBytes
-  yes-long = parts-length stepBytes (λ t. refl) (ourSteps (linesOf s) (counted s ws) n m a b) ∙ mul-comm 8 (length (ourSteps (linesOf s) (counted s ws) n m a b))
-
   -- A EQUAL TO B: nothing to show
   pub same-sheet : a ≡ b → Answers n m s ws a b taken sheet (answer.Follows 0) sheet
   unfolding yesBytes follows flatten
@@ -198,7 +194,7 @@ module _ (n m : ℕ) (s ws : List ℕ) (a b : ℕ) {c : ℕ} (taken : checkQuest
 
   module _ (yes : follows n m s ws a b ≡ true) (steps : ℕ) (many : steps ≡ length (ourSteps (linesOf s) (counted s ws) n m a b)) where
     bytes-long : length (yesBytes n m s ws a b) ≡ steps * 8
-    bytes-long = yes-long ∙ ap (λ (k : ℕ). k * 8) (sym many)
+    bytes-long = yes-length n m s ws a b ∙ omega arith
 
     pub yes-short : length sheet < steps * 8 → Answers n m s ws a b taken sheet (answer.NoRoom (steps * 8)) sheet
     yes-short = too-short n m s ws a b taken sheet true yes (yesBytes n m s ws a b) steps refl bytes-long
@@ -237,7 +233,7 @@ module _ (n m : ℕ) (s ws : List ℕ) (a b : ℕ) {c : ℕ} (taken : checkQuest
       end = end-not n m s ws a b taken differ blank cs lks blank′ k ran h
 
       ours-long : length (noBytes n m s ws) ≡ n * (1 + m) * 8
-      ours-long = parts-length wordBytes word-length (ourRows (linesOf s) (counted s ws) n m) ∙ omega (arith, ours.rows-length (linesOf s) (counted s ws) n m)
+      ours-long = no-length n m s ws ∙ omega (arith, ours.rows-length (linesOf s) (counted s ws) n m)
 
       go : Dec (length sheet < n * (1 + m) * 8) → Answers n m s ws a b taken sheet r after
       go (yes l) =

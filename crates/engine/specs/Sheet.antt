@@ -1,12 +1,11 @@
 -- What the sheet writer answers, and what the lent sheet holds afterwards.
-use Prim.Native.Nat.{ℕ, zero, suc, _*_, _/_, _%_, _^_}
+use Prim.Native.Nat.{ℕ, _*_, _/_, _%_, _^_}
 use mathlib.Core.Bool.{Bool, cond}
-use mathlib.Core.List.{List, [], _∷_, _++_, map, flatten}
+use mathlib.Core.List.{List, _++_, map, flatten}
 use lib.Dec.{leb}
 use lib.ListN.{length, drop}
 use Rattle.pack.specs.declared.check.Checked.{Checked}
 use Rattle.pack.specs.declared.check.Checked.the-variants as checked
-use Rattle.pack.specs.declared.line.Step.{Step}
 use Rattle.pack.specs.Bytes.{listed}
 use Rattle.pack.specs.Marks.{counted}
 use Rattle.pack.specs.Question.{checkQuestion}

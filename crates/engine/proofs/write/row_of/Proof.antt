@@ -2,8 +2,7 @@ use Rattle.engine.proofs.WriteLaws.{div-less}
 use borrow.Author.Tests.{lt-ltb, le-ltb}
 use native.Mathlib.Omega.{arith}
 use native.Mathlib.Nat.{mod-lt}
-use Prim.Native.Nat.{ℕ, _+_, _-_, _*_, _/_, _%_, _^_, _<_}
-use mathlib.Core.Path.{_≡_, sym, _∙_, subst}
+use Prim.Native.Nat.{_-_, _/_, _%_, _<_}
 -- `engine::write::row_of` meets its contract.
 use borrow.Author.Needs.{needs}
 use Rattle.engine.proofs.write.row_of.Statement.{statement}

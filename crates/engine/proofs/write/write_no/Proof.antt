@@ -1,14 +1,14 @@
 use Rattle.engine.specs.Inner.{rowsBytes}
 use lib.ListN.{drop}
-use mathlib.Core.List.{List, _++_}
+use mathlib.Core.List.{_++_}
 use Rattle.engine.proofs.WriteLaws.{rows-length}
-use Rattle.engine.specs.declared.write.SheetAnswer.the-variants.{NoRoom, Not}
+use Rattle.engine.specs.declared.write.SheetAnswer.the-variants.{NoRoom}
 use Rattle.sheets.proofs.NoLaws.{rows-few}
 use borrow.Author.Tests.{le-leb, lt-leb}
 use native.Mathlib.Omega.{arith}
 use native.Mathlib.Nat.{mul-comm, mul-le-mul-left}
-use Prim.Native.Nat.{ℕ, _+_, _*_, _≤_}
-use mathlib.Core.Path.{_≡_, refl, sym, ap, _∙_}
+use Prim.Native.Nat.{ℕ, _+_, _*_}
+use mathlib.Core.Path.{refl, sym, ap, _∙_}
 -- `engine::write::write_no` meets its contract.
 use borrow.Author.Needs.{needs}
 use Rattle.engine.proofs.write.write_no.Statement.{statement}

@@ -3,8 +3,8 @@ use Rattle.engine.specs.Inner.{rowIn}
 use lib.ListN.{length, length-take, length-drop}
 use native.Mathlib.Omega.{arith}
 use borrow.Author.Count.{below-more}
-use Prim.Native.Nat.{ℕ, _+_, _-_, _*_, _≤_, _<_, _^_}
-use mathlib.Core.Path.{_≡_, sym, ap, _∙_}
+use Prim.Native.Nat.{ℕ, _-_, _≤_, _<_, _^_}
+use mathlib.Core.Path.{_≡_, ap, _∙_}
 -- `engine::write::write_rows` meets its contract: row by row.
 use Rattle.engine.proofs.write.write_rows.Statement.{statement}
 use Rattle.engine.proofs.write.write_rows.Tie as tie

@@ -4,7 +4,7 @@ use Rattle.tables.specs.Tables.{held}
 use borrow.Author.Needs.{needs}
 use lib.ListN.{length, length-reverse}
 use native.Mathlib.Omega.{arith}
-use mathlib.Core.Path.{_≡_, refl, sym, ap, _∙_}
+use mathlib.Core.Path.{refl, sym, ap, _∙_}
 -- `engine::write::write_settled` meets its contract.
 use Rattle.engine.proofs.write.write_settled.Statement.{statement}
 use Rattle.engine.proofs.write.write_settled.Tie as tie

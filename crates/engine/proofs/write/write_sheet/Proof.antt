@@ -1,6 +1,6 @@
 use Rattle.engine.specs.Sheet.{askSheet, writtenSheet}
 use borrow.Author.Needs.{needs}
-use mathlib.Core.Path.{_≡_, refl, sym, _∙_}
+use mathlib.Core.Path.{sym, _∙_}
 -- `engine::write::write_sheet` meets its contract: the question's refusal, or what is written.
 use Rattle.engine.proofs.write.write_sheet.Statement.{statement}
 use Rattle.engine.proofs.write.write_sheet.Tie as tie

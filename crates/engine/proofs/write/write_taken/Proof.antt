@@ -1,5 +1,4 @@
 use Rattle.engine.proofs.WriteLaws.{same-sheet}
-use mathlib.Core.Path.{_≡_, sym, ap, _∙_}
 -- `engine::write::write_taken` meets its contract.
 use Rattle.engine.proofs.write.write_taken.Statement.{statement}
 use Rattle.engine.proofs.write.write_taken.Tie as tie

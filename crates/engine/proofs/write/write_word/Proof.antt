@@ -5,7 +5,7 @@ use lib.Seq.{sets-eq}
 use native.Mathlib.Omega.{arith}
 use native.Mathlib.Nat.{div-one}
 use Prim.Native.Nat.{ℕ, _/_, _%_}
-use mathlib.Core.Path.{_≡_, refl, ap, _∙_}
+use mathlib.Core.Path.{_≡_, ap, _∙_}
 use mathlib.Core.List.{List, [], _∷_, _++_}
 -- `engine::write::write_word` meets its contract: eight stores into a part of eight bytes.
 use borrow.Author.Needs.{needs}

@@ -1,12 +1,10 @@
 use Rattle.engine.proofs.VerdictLaws.{end-few}
 use borrow.Author.Needs.{needs}
-use lib.ListN.{length, length-take, length-drop}
-use Prim.Native.Nat.{ℕ, _*_, _-_}
-use mathlib.Core.List.{List, _++_}
+use lib.ListN.{length-take, length-drop}
+use Prim.Native.Nat.{_*_}
 use borrow.Rule.Slice.PartMut.{post-is}
 use Rattle.engine.proofs.WriteLaws.{yes-short, yes-full}
 use native.Mathlib.Omega.{arith, by-contra}
-use mathlib.Core.Path.{_≡_, sym, ap, _∙_}
 -- `engine::write::write_yes` meets its contract: the passes again, on a part of the sheet as long as their steps.
 use Rattle.engine.proofs.write.write_yes.Statement.{statement}
 use Rattle.engine.proofs.write.write_yes.Tie as tie
