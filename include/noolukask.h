@@ -19,7 +19,8 @@
  *   sheet   what somebody offers as the answer, see below
  *
  * Numbers and lengths may be of any value: what is out of range is refused.
- * Nothing that is handed over is changed, kept or freed. A pointer may be NULL
+ * Nothing that is handed over is kept or freed, and nothing but the buffer of
+ * noolukask_write_sheet is changed. A pointer may be NULL
  * where its length is 0. Calls may run side by side.
  */
 #ifndef NOOLUKASK_H
@@ -39,6 +40,8 @@ enum noolukask_number {
     NOOLUKASK_RECORD = 3,     /* a record breaks its rules, marked or not: lowest place    */
     NOOLUKASK_MARKS = 4,      /* not 128 bytes, or a bit at or above the record count      */
     NOOLUKASK_GOAL = 5,       /* a goal concept not below n                                */
+    NOOLUKASK_TOO_LONG = 6,   /* the passes would add over 36,800 facts: proved never given */
+    NOOLUKASK_NO_ROOM = 8,    /* our sheet is longer than the buffer: bytes needed         */
     NOOLUKASK_LENGTH = 9,     /* a sheet of an impossible length                           */
     NOOLUKASK_STEP = 10,      /* a step of a yes sheet is not good: lowest step            */
     NOOLUKASK_ROW = 11,       /* a forbidden bit in a no sheet: lowest row                 */
@@ -46,8 +49,8 @@ enum noolukask_number {
     NOOLUKASK_NOT_SHOWN = 13  /* the rest is good, but the goal is not shown or refuted    */
 };
 
-/* ---- Library desk: packs and questions ------------------------------------------
- * Both calls return the table's number in the low byte (0: nothing is refused) and a
+/* ---- Library desk: packs, questions, verdicts and our sheets --------------------
+ * The calls return the table's number in the low byte (0: nothing is refused) and a
  * value above it (back >> 8): with RECORD the lowest bad place; where nothing is
  * refused the number of records; else 0. Places count from 0.
  */
@@ -61,6 +64,24 @@ uint64_t noolukask_check_question(uint64_t n, uint64_t m,
                                   const uint8_t *pack, size_t pack_len,
                                   const uint8_t *marks, size_t marks_len,
                                   uint64_t a, uint64_t b);
+
+/* Does every thing of concept a belong to concept b? Numbers 1 to 6; where nothing is
+ * refused the value is 1 for FOLLOWS and 0 for NOT: 256 and 0 come back. */
+uint64_t noolukask_verdict(uint64_t n, uint64_t m,
+                           const uint8_t *pack, size_t pack_len,
+                           const uint8_t *marks, size_t marks_len,
+                           uint64_t a, uint64_t b);
+
+/* Writes the sheet that shows the verdict, a yes sheet or a no sheet as below, to the
+ * start of the buffer, and leaves the rest of it as it was. Numbers 1 to 6, and 8 with
+ * the bytes needed (a buffer of length 0 asks for the room); else the value is
+ * 2 * steps + 1 for a yes sheet and 2 * rows for a no sheet, of 8 bytes a step or row.
+ * Where a number comes back, no byte of the buffer was changed. */
+uint64_t noolukask_write_sheet(uint64_t n, uint64_t m,
+                               const uint8_t *pack, size_t pack_len,
+                               const uint8_t *marks, size_t marks_len,
+                               uint64_t a, uint64_t b,
+                               uint8_t *sheet, size_t sheet_len);
 
 /* ---- Library sheets: the two checks of a sheet ----------------------------------
  * Both return 0 when the sheet is accepted, else the table's number plus 16 times the

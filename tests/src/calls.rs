@@ -21,6 +21,15 @@ pub mod raw {
             marks: *const u8, marks_len: usize, a: u64, b: u64,
             sheet: *const u8, sheet_len: usize,
         ) -> u64;
+        pub fn noolukask_verdict(
+            n: u64, m: u64, pack: *const u8, pack_len: usize,
+            marks: *const u8, marks_len: usize, a: u64, b: u64,
+        ) -> u64;
+        pub fn noolukask_write_sheet(
+            n: u64, m: u64, pack: *const u8, pack_len: usize,
+            marks: *const u8, marks_len: usize, a: u64, b: u64,
+            sheet: *mut u8, sheet_len: usize,
+        ) -> u64;
     }
 }
 
@@ -55,6 +64,19 @@ impl<'a> Lent<'a> {
         let (lent, after) = rest.split_at(self.bytes.len());
         assert!(lent == self.bytes, "a call changed its input");
         assert!(before.iter().chain(after).all(|&b| b == FENCE), "a call wrote beside its input");
+    }
+
+    /// For a call that may write between the fences.
+    fn at_mut(&mut self) -> *mut u8 {
+        self.copy[self.start..].as_mut_ptr()
+    }
+
+    /// What such a call left there.
+    fn written(&self) -> &[u8] {
+        let (before, rest) = self.copy.split_at(self.start);
+        let (lent, after) = rest.split_at(self.bytes.len());
+        assert!(before.iter().chain(after).all(|&b| b == FENCE), "a call wrote beside its buffer");
+        lent
     }
 }
 
@@ -103,6 +125,59 @@ pub fn check_no(q: &Question, sheet: &[u8]) -> u64 {
     };
     [pack, marks, sheet].iter().for_each(Lent::assert_unchanged);
     back
+}
+
+pub fn verdict(q: &Question) -> u64 {
+    let (pack, marks) = (Lent::new(&q.pack), Lent::new(&q.marks));
+    // SAFETY: as above.
+    let back = unsafe {
+        raw::noolukask_verdict(q.n, q.m, pack.at(), pack.len(), marks.at(), marks.len(), q.a, q.b)
+    };
+    pack.assert_unchanged();
+    marks.assert_unchanged();
+    back
+}
+
+/// What comes back, and what a buffer that held `before` holds afterwards.
+pub fn write_sheet(q: &Question, before: &[u8]) -> (u64, Vec<u8>) {
+    let (pack, marks, mut sheet) = (Lent::new(&q.pack), Lent::new(&q.marks), Lent::new(before));
+    // SAFETY: as above; only the call writes to the buffer meanwhile.
+    let back = unsafe {
+        raw::noolukask_write_sheet(
+            q.n, q.m, pack.at(), pack.len(), marks.at(), marks.len(), q.a, q.b,
+            sheet.at_mut(), sheet.len(),
+        )
+    };
+    pack.assert_unchanged();
+    marks.assert_unchanged();
+    (back, sheet.written().to_vec())
+}
+
+/// The sheet writer with NULL and length 0 for the buffer, as a first call that asks for the room.
+pub fn write_sheet_to_null(q: &Question) -> u64 {
+    let (pack, marks) = (Lent::new(&q.pack), Lent::new(&q.marks));
+    // SAFETY: as above; no byte is written where the length is 0.
+    let back = unsafe {
+        raw::noolukask_write_sheet(
+            q.n, q.m, pack.at(), pack.len(), marks.at(), marks.len(), q.a, q.b,
+            std::ptr::null_mut(), 0,
+        )
+    };
+    pack.assert_unchanged();
+    marks.assert_unchanged();
+    back
+}
+
+/// The two calls that decide, with NULL and length 0 for every slice, n = 1, m = 0, goal (0,0).
+pub fn decide_with_null() -> [u64; 2] {
+    let null = std::ptr::null();
+    // SAFETY: no byte is read or written where the length is 0.
+    unsafe {
+        [
+            raw::noolukask_verdict(1, 0, null, 0, null, 0, 0, 0),
+            raw::noolukask_write_sheet(1, 0, null, 0, null, 0, 0, 0, std::ptr::null_mut(), 0),
+        ]
+    }
 }
 
 /// All four calls with NULL and length 0 for every slice, n = 1, m = 0, goal (0,0).

@@ -2,7 +2,7 @@
 use mathlib.Core.Path.{_≡_, refl, sym, ap, _∙_}
 use mathlib.Core.Bool.{Bool, true, false, cond, not, _&&_, _||_}
 use Prim.Native.Nat.{ℕ, zero, suc, _+_, _-_, _*_, _/_, _%_, _^_, _≤_, _<_, min, max}
-use native.Mathlib.Decide.{ℕ-discrete}
+use native.Mathlib.Decide.{ℕ-discrete, decLt}
 use native.Mathlib.Nat.{mod-lt, zero-lt-suc, pow-suc, not-suc-le-zero, div-one, one-mul, zero-add}
 use native.Mathlib.Numerals.{one-add}
 use native.Mathlib.Omega.{arith, by-contra}
@@ -11,11 +11,11 @@ use lib.Bits.{bitAnd, bitOr, and-shr, or-shr, and-step, or-step, and-le-l}
 use lib.Count.{ones, ones-step, trailingZeros, under}
 use lib.Dec.{lit<, eqb}
 use lib.Pow.{shr-shr, pow-pos, shl-exact, shr-le}
-use borrow.Author.Tests.{eqb-true, eqb-false, eq-eqb, ne-eqb}
+use borrow.Author.Tests.{eqb-true, eq-eqb, ne-eqb}
 use Rattle.bits.specs.Bit.{bit, has, withBit}
 use Rattle.bits.specs.Sets.{lowest, countTo}
-use Rattle.bits.proofs.Truth.{alike, and-true, true-and, never}
-use Rattle.bits.proofs.SetLaws.{Lowest, lowest-at, count-add, count-same}
+use Rattle.bits.proofs.Truth.{true-and, never}
+use Rattle.bits.proofs.SetLaws.{Lowest, lowest-is, count-add, count-same}
 
 -- a bit as a number and as yes or no
 bit-lt : (w j : ℕ) → bit w j < 2
@@ -139,7 +139,7 @@ pub has-ext : (k a b : ℕ) → a < 2 ^ k → b < 2 ^ k → ((j : ℕ) → j < k
 has-ext k a b ha hb e =
     bit-ext k a b ha hb (λ j l. bit-has a j ∙ ap (λ (t : Bool). cond t 1 0) (e j l) ∙ sym (bit-has b j))
 
--- a word with no bit is 0, and one that is not 0 has a bit
+-- a word with no bit is 0
 pub has-none : (k a : ℕ) → a < 2 ^ k → ((j : ℕ) → j < k → has a j ≡ false) → a ≡ 0
 has-none k a h e = has-ext k a 0 h (pow-pos k) (λ j l. e j l ∙ sym (has-zero j))
 
@@ -174,8 +174,8 @@ pub one-shl : (j : ℕ) → j < 64 → (1 * 2 ^ j) % 2 ^ 64 ≡ 2 ^ j
 one-shl j h = shl-exact {a = 1} 1 j 64 (lit< tt) (omega arith) ∙ one-mul (2 ^ j)
 
 -- x & y, and x & !y: what it is for them to be 0
-pub meets-none : (k x y : ℕ) → bitAnd x y ≡ 0 → (j : ℕ) → (has x j && has y j) ≡ false
-meets-none k x y e j = sym (has-and x y j) ∙ ap (λ (w : ℕ). has w j) e ∙ has-zero j
+pub meets-none : (x y : ℕ) → bitAnd x y ≡ 0 → (j : ℕ) → (has x j && has y j) ≡ false
+meets-none x y e j = sym (has-and x y j) ∙ ap (λ (w : ℕ). has w j) e ∙ has-zero j
 
 pub none-meets : (k x y : ℕ) → x < 2 ^ k → ((j : ℕ) → j < k → (has x j && has y j) ≡ false) → bitAnd x y ≡ 0
 none-meets k x y h f =
@@ -183,7 +183,7 @@ none-meets k x y h f =
 
 -- x & !y is 0 exactly when y has every bit of x
 pub contained : (k x y : ℕ) → x < 2 ^ k → y < 2 ^ k → bitAnd x ((2 ^ k - 1) - y) ≡ 0 → (j : ℕ) → j < k → has x j ≡ true → has y j ≡ true
-contained k x y hx hy e j l h = go (has y j) refl (meets-none k x ((2 ^ k - 1) - y) e j)
+contained k x y hx hy e j l h = go (has y j) refl (meets-none x ((2 ^ k - 1) - y) e j)
   where
     go : (t : Bool) → has y j ≡ t → (has x j && has ((2 ^ k - 1) - y) j) ≡ false → t ≡ true
     go true g z = refl
@@ -197,10 +197,6 @@ contains k x y hx hy f = none-meets k x ((2 ^ k - 1) - y) hx (λ j l. go j l (ha
     go j l false e = refl
 
 -- the lowest set bit, by trailing zeros
-under-lt : (d t k : ℕ) → (d ≡ 0 → t < k) → under d t < suc k
-under-lt zero t k h = omega (arith, h refl)
-under-lt (suc d) t k h = omega arith
-
 tz-at : (k a : ℕ) → a < 2 ^ k → (a ≡ 0 → ⊥) → bit a (trailingZeros k a) ≡ 1
 unfolding trailingZeros
 tz-at zero a h n = absurd (n (lt-one h))
@@ -249,6 +245,73 @@ module _ (w y : ℕ) (hw : w < 2 ^ 64) (hy : y < 64) where
         none = λ i l h. not-has w i (shifted i l ∙ tz-below 64 (w / 2 ^ y) (i - y) (omega arith));
         found = λ h. one-has w (y + t) one;
       }
+
+-- one less: the lowest set bit t turns to 0, and the bits above it stay
+abbrev Bottom : ℕ → ℕ → Type 0
+Bottom w t = (bit w t ≡ 1) × ((i : ℕ) → i < t → bit w i ≡ 0)
+
+half-bottom : (w t : ℕ) → Bottom w (suc t) → Bottom (w / 2) t
+half-bottom w t b =
+    (sym (bit-suc w t) ∙ b .0, λ i l. sym (bit-suc w i) ∙ b .1 (suc i) (omega arith))
+
+-- above an even word's lowest bit, one less is one less in the half
+half-pred : (w t : ℕ) → Bottom w (suc t) → (w - 1) / 2 ≡ w / 2 - 1
+half-pred w t b = go (w / 2) refl
+  where
+    go : (h : ℕ) → w / 2 ≡ h → (w - 1) / 2 ≡ w / 2 - 1
+    go zero e = absurd (omega (arith, half-bottom w t b .0, ap (λ (x : ℕ). bit x t) e, bit-of-zero t))
+    go (suc h) e = omega (arith, bit-zero w, b .1 0 (omega arith))
+
+pred-at : (t w : ℕ) → Bottom w t → bit (w - 1) t ≡ 0
+pred-at zero w b = bit-zero (w - 1) ∙ omega (arith, bit-zero w, b .0)
+pred-at (suc t) w b =
+    bit-suc (w - 1) t ∙ ap (λ (x : ℕ). bit x t) (half-pred w t b) ∙ pred-at t (w / 2) (half-bottom w t b)
+
+pred-above : (t w j : ℕ) → Bottom w t → t < j → bit (w - 1) j ≡ bit w j
+pred-above t w zero b l = absurd (not-suc-le-zero l)
+pred-above zero w (suc j) b l =
+    let half : (w - 1) / 2 ≡ w / 2 = omega (arith, bit-zero w, b .0) in
+    bit-suc (w - 1) j ∙ ap (λ (x : ℕ). bit x j) half ∙ sym (bit-suc w j)
+pred-above (suc t) w (suc j) b l =
+    bit-suc (w - 1) j ∙ ap (λ (x : ℕ). bit x j) (half-pred w t b)
+    ∙ pred-above t (w / 2) j (half-bottom w t b) (omega arith) ∙ sym (bit-suc w j)
+
+-- w & (w - 1) is w without its lowest set bit
+pub without : (w j : ℕ) → w < 2 ^ 64 → (w ≡ 0 → ⊥) → has (bitAnd w (w - 1)) j ≡ (has w j && not (eqb (lowest (has w) 0 64) j))
+without w j h n = has-and w (w - 1) j ∙ go (decLt j t) (decLt t j)
+  where
+    t : ℕ
+    t = lowest (has w) 0 64
+
+    first : Lowest (has w) 0 64 t
+    first = lowest-is (has w) 0 64
+
+    in-word : t < 64
+    in-word = by-contra (suc t) 64 (λ l. n (has-none 64 w h (λ i k. first .none i (omega arith) (omega arith))))
+
+    bottom : Bottom w t
+    bottom = (has-one w t (first .found (omega (arith, in-word))), λ i l. has-not w i (first .none i (omega arith) l))
+
+    same : (x y : ℕ) → bit x j ≡ bit y j → has x j ≡ has y j
+    same x y e = by-bits x j (has y j) (λ a. e ∙ has-one y j a) (λ a. e ∙ has-not y j a)
+
+    twice : (a : Bool) → (a && a) ≡ (a && true)
+    twice true = refl
+    twice false = refl
+
+    go : Dec (j < t) → Dec (t < j) → (has w j && has (w - 1) j) ≡ (has w j && not (eqb t j))
+    go (yes a) b = rw (first .none j (omega arith) a)
+    go (no a) (yes b) =
+        rw (same (w - 1) w (pred-above t w j bottom b), ne-eqb t j (λ q. omega arith)) (twice (has w j))
+    go (no a) (no b) =
+        let e : t ≡ j = omega arith in
+        let low : has (w - 1) j ≡ false = not-has (w - 1) j (rw e at (pred-at t w bottom)) in
+        rw (low, eq-eqb t j e)
+
+pub without-none : (w j : ℕ) → w ≡ 0 → has 0 j ≡ (has w j && not (eqb (lowest (has w) 0 64) j))
+without-none w j e =
+    let none : has w j ≡ false = ap (λ (x : ℕ). has x j) e ∙ has-zero j in
+    has-zero j ∙ rw none
 
 -- the count of set bits
 pub ones-count : (k a : ℕ) → a < 2 ^ k → ones a ≡ countTo (has a) k

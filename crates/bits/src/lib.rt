@@ -1,6 +1,8 @@
 // Bits of a 64-bit word. Callers go by the laws of proofs/BitLaws.antt and never unfold `has`.
 ghost use mathlib.Core.Path.{_≡_};
-ghost use Prim.Native.Nat.{_-_, _%_};
+ghost use mathlib.Core.Bool.{not, _&&_};
+ghost use Prim.Native.Nat.{ℕ, _-_, _%_};
+ghost use lib.Dec.{eqb};
 ghost use Rattle.bits.specs.Bit.{has, withBit};
 ghost use Rattle.bits.specs.Sets.{lowest, countTo};
 
@@ -30,6 +32,16 @@ pub fn next_bit(w: u64, j: usize) -> usize
         return 64;
     }
     j + u64::trailing_zeros(rest) as usize
+}
+
+// w with its lowest set bit cleared; 0 for 0.
+pub fn without_lowest(w: u64) -> u64
+    ensures { λ r. ⌜ ((j : ℕ) → has r j ≡ (has w j && not (eqb (lowest (has w) 0 64) j))) ⌝ }
+{
+    if w == 0 {
+        return 0;
+    }
+    w & (w - 1)
 }
 
 // How many bits of w are set.

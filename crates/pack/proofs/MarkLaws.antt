@@ -1,8 +1,8 @@
 -- Laws of marks: place by place in the words, and word by word in the count and the search.
-use mathlib.Core.Path.{_≡_, refl, sym, ap, ap₂, _∙_}
-use mathlib.Core.Bool.{Bool, true, false, cond, _&&_}
+use mathlib.Core.Path.{_≡_, refl, ap, ap₂, _∙_}
+use mathlib.Core.Bool.{true, false}
 use mathlib.Core.List.{List}
-use Prim.Native.Nat.{ℕ, zero, suc, _+_, _-_, _*_, _/_, _%_, _≤_, _<_}
+use Prim.Native.Nat.{ℕ, _+_, _-_, _*_, _/_, _%_, _≤_, _<_}
 use native.Mathlib.Decide.{decLt}
 use native.Mathlib.Omega.{arith}
 use lib.Dec.{eqb, leb}
@@ -13,7 +13,7 @@ use Rattle.bits.specs.Sets.{lowest, countTo}
 use Rattle.bits.proofs.Truth.{and-true}
 use Rattle.bits.proofs.BitLaws.{has-zero}
 use Rattle.bits.proofs.SetLaws.{Lowest, lowest-is, lowest-at, count-add, count-same}
-use Rattle.pack.specs.Marks.{marked, marksFit, markCount}
+use Rattle.pack.specs.Marks.{marked, marksFit}
 
 module _ (ws : List ℕ) where
   -- bit j of word w

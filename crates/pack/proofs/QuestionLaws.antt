@@ -1,6 +1,6 @@
 -- Laws of the question check: a question that is counted has a good pack, marks that fit and a goal below n.
 use mathlib.Core.Path.{_≡_, refl}
-use mathlib.Core.Bool.{Bool, true, false, cond, _&&_}
+use mathlib.Core.Bool.{Bool, true, false, cond}
 use mathlib.Core.List.{List}
 use Prim.Native.Nat.{ℕ, _<_}
 use native.Mathlib.Omega.{arith}
@@ -12,7 +12,7 @@ use Rattle.pack.specs.declared.check.Checked.{Checked}
 use Rattle.pack.specs.declared.check.Checked.the-variants.{Refused, Count}
 use Rattle.pack.specs.Marks.{marksFit}
 use Rattle.pack.specs.Pack.{checkPack}
-use Rattle.pack.specs.Question.{goalFits, checkCounted, afterPack, checkQuestion}
+use Rattle.pack.specs.Question.{goalFits, afterPack, checkQuestion}
 use Rattle.pack.proofs.PackLaws.{Accepted, counted}
 use Rattle.pack.proofs.MarkLaws.{Fit, fit}
 

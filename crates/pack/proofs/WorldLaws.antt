@@ -1,6 +1,6 @@
 -- The test of a line in a world is right: it is yes exactly when the world obeys the line.
 use mathlib.Core.Path.{_≡_, refl}
-use mathlib.Core.Bool.{Bool, true, false, not, _&&_, _||_}
+use mathlib.Core.Bool.{Bool, true, false, _&&_}
 use Prim.Native.Nat.{ℕ, _<_}
 use Rattle.bits.specs.Sets.{every, some}
 use Rattle.bits.proofs.Truth.{and-true, true-and, never}

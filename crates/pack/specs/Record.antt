@@ -1,6 +1,6 @@
 -- A record of 8 bytes: kind, a, b, c and the statement number, which is not read. Its line, and the rules of its fields.
 use Prim.Native.Nat.{ℕ, _/_, _<_}
-use mathlib.Core.Bool.{Bool, true, false, cond, not, _&&_}
+use mathlib.Core.Bool.{Bool, false, cond, not, _&&_}
 use mathlib.Core.List.{List}
 use lib.Dec.{eqb, ltb}
 use lib.ListN.{length, getD}

@@ -1,6 +1,5 @@
 // Marks: 16 words of 64 bits. Record i is marked when bit i mod 64 of word i div 64 is set.
 ghost use mathlib.Core.Path.{_≡_};
-ghost use mathlib.Core.Bool.{_&&_};
 ghost use Prim.Native.Nat.{_-_};
 ghost use lib.ListN.{getD};
 ghost use Rattle.bits.specs.Sets.{lowest};

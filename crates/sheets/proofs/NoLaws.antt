@@ -2,18 +2,17 @@
 use mathlib.Core.Path.{_≡_, refl, sym, ap, _∙_}
 use mathlib.Core.Bool.{Bool, true, false, cond, not, _&&_}
 use mathlib.Core.List.{List}
-use Prim.Native.Nat.{ℕ, zero, suc, _+_, _-_, _*_, _/_, _%_, _≤_, _<_}
-use native.Mathlib.Decide.{decLt}
-use native.Mathlib.Nat.{mul-add, mul-one, mul-comm, mul-assoc, suc-mul, mul-le-mul-right, mul-le-mul-left, div-add-mod', add-zero, zero-add, le-trans}
+use Prim.Native.Nat.{ℕ, suc, _+_, _*_, _%_, _≤_, _<_}
+use native.Mathlib.Nat.{mul-add, mul-one, mul-comm, mul-assoc, suc-mul, mul-le-mul-right, mul-le-mul-left, div-add-mod', zero-add}
 use native.Mathlib.Omega.{arith}
 use lib.Dec.{eqb, ltb, leb}
 use lib.ListN.{length}
-use borrow.Author.Tests.{lt-ltb, le-ltb, ltb-true, ltb-false, leb-true, le-leb, eqb-true, eq-eqb}
+use borrow.Author.Tests.{le-ltb, ltb-true, ltb-false, leb-true, le-leb}
 use Rattle.bits.specs.Bit.{has}
-use Rattle.bits.specs.Sets.{lowest, some}
+use Rattle.bits.specs.Sets.{some}
 use Rattle.bits.proofs.Promises.{no-second}
-use Rattle.bits.proofs.Truth.{and-true, true-and, and-false, not-true, not-false, never}
-use Rattle.bits.proofs.SetLaws.{Lowest, lowest-is, lowest-at, lowest-none, none-lowest, some-true, true-some}
+use Rattle.bits.proofs.Truth.{and-true, true-and, not-true, not-false, never}
+use Rattle.bits.proofs.SetLaws.{Lowest, lowest-is, lowest-none, none-lowest, some-true, true-some}
 use Rattle.pack.specs.declared.check.Refusal.{Refusal}
 use Rattle.pack.specs.declared.check.Checked.{Checked}
 use Rattle.pack.specs.declared.check.Checked.the-variants as checked
@@ -23,12 +22,10 @@ use Rattle.pack.specs.World.{World, Is, Obeys, Follows, lineAt, obeys}
 use Rattle.pack.specs.Record.{linesOf, ValidLine, Valid}
 use Rattle.pack.specs.Marks.{counted}
 use Rattle.pack.specs.Question.{checkQuestion}
-use Rattle.pack.proofs.QuestionLaws.{Asked, asked}
-use Rattle.pack.proofs.RecordLaws.{lines-valid}
 use Rattle.pack.proofs.WorldLaws.{obeys-line, line-obeys}
 use Rattle.sheets.specs.declared.no.NoAnswer.{NoAnswer}
 use Rattle.sheets.specs.declared.no.NoAnswer.the-variants as no
-use Rattle.sheets.specs.NoSheet.{rowAt, rowsOf, thingsIn, noLengthFits, forbidden, worldOf, lowestForbidden, lowestBroken, refutes, checkWorld, checkRows, noAfter, checkNo}
+use Rattle.sheets.specs.NoSheet.{rowAt, rowsOf, thingsIn, noLengthFits, forbidden, worldOf, lowestForbidden, lowestBroken, refutes, checkWorld, checkRows, checkNo}
 use Rattle.sheets.specs.Inner.{ThingsFit, RoleFits, LineFits, LinesFit}
 
 -- the rows: k, and k for each role

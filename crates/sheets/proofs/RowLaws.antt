@@ -1,20 +1,18 @@
 -- Laws of rows: searches and tests over 64 bits, and over the k things that a row speaks of.
 use mathlib.Core.Path.{_≡_, refl, sym, ap, _∙_}
-use mathlib.Core.Bool.{Bool, true, false, cond, not, _&&_, _||_}
-use mathlib.Core.List.{List}
-use Prim.Native.Nat.{ℕ, zero, suc, _+_, _-_, _*_, _^_, _/_, _%_, _≤_, _<_}
+use mathlib.Core.Bool.{Bool, true, false, not, _&&_, _||_}
+use Prim.Native.Nat.{ℕ, suc, _+_, _-_, _^_, _%_, _≤_, _<_}
 use native.Mathlib.Decide.{decLt}
 use native.Mathlib.Nat.{mod-eq-of-lt}
-use native.Mathlib.Omega.{arith}
+use native.Mathlib.Omega.{arith, by-contra}
 use lib.Bits.{bitAnd}
 use lib.Dec.{eqb, ltb, leb}
-use lib.ListN.{length}
-use borrow.Author.Tests.{lt-ltb, le-ltb, ltb-true, ltb-false, leb-true, le-leb, lt-leb, eq-eqb, ne-eqb, eqb-true, eqb-false}
+use borrow.Author.Tests.{lt-ltb, le-ltb, ltb-true, leb-true, le-leb, eq-eqb, ne-eqb, eqb-true, eqb-false}
 use Rattle.bits.specs.Bit.{has}
 use Rattle.bits.specs.Sets.{lowest, every, some}
 use Rattle.bits.proofs.Truth.{and-true, true-and, and-false, and-yes, or-false, alike, never}
-use Rattle.bits.proofs.SetLaws.{Lowest, lowest-is, every-true, true-every, every-false, some-true, true-some, some-false}
-use Rattle.bits.proofs.BitLaws.{has-high, meets-none, none-meets, contained, contains}
+use Rattle.bits.proofs.SetLaws.{Lowest, lowest-is, lowest-at, every-true, true-every, every-false, some-true, true-some, some-false}
+use Rattle.bits.proofs.BitLaws.{meets-none, none-meets, contained, contains}
 use Rattle.pack.specs.World.{implies}
 use Rattle.pack.proofs.WorldLaws.{implies-true, true-implies}
 
@@ -45,7 +43,7 @@ pub meet : (x y : ℕ) → x < 2 ^ 64 → not (eqb (bitAnd x y) 0) ≡ some 64 (
 meet x y h = go (eqb (bitAnd x y) 0) refl
   where
     go : (t : Bool) → eqb (bitAnd x y) 0 ≡ t → not t ≡ some 64 (λ j. has x j && has y j)
-    go true e = sym (some-false (λ j. has x j && has y j) 64 (λ j l. meets-none 64 x y (eqb-true (bitAnd x y) 0 e) j))
+    go true e = sym (some-false (λ j. has x j && has y j) 64 (λ j l. meets-none x y (eqb-true (bitAnd x y) 0 e) j))
     go false e = other (some 64 (λ j. has x j && has y j)) refl
       where
         other : (t : Bool) → some 64 (λ j. has x j && has y j) ≡ t → true ≡ t
@@ -100,31 +98,49 @@ not-implied p q e t = rw (sym e ∙ t)
 pub both-implied : (p q v : Bool) {r s : Bool} → r ≡ p → r ≡ true → s ≡ implies q v → s ≡ implies (p && q) v
 both-implied p q v e t f = f ∙ rw (sym e ∙ t)
 
--- a walk over the set bits of a word: each bit before y that is set is ok, and y is set or past the end
+-- a walk over the set bits of a word w, which takes bit after bit off: each bit before y that is set is ok, the rest has
+-- w's bits from y on, and y is the lowest bit of the rest, or 64
 module _ (w : ℕ) (ok : ℕ → Bool) where
-  abbrev pub Passed : ℕ → Type 0
-  Passed y = (y ≤ 64) × ((j : ℕ) → j < y → implies (has w j) (ok j) ≡ true) × (y < 64 → has w y ≡ true)
+  abbrev pub Passed : ℕ → ℕ → Type 0
+  Passed rest y = ((j : ℕ) → j < y → implies (has w j) (ok j) ≡ true) × ((j : ℕ) → y ≤ j → has rest j ≡ has w j) × Lowest (has rest) 0 64 y
 
-  pub pass-start : {r : ℕ} → r ≡ lowest (has w) 0 64 → Passed r
+  pub pass-start : {r : ℕ} → r ≡ lowest (has w) 0 64 → Passed w r
   pass-start {r} e =
       let f : Lowest (has w) 0 64 r = rw e (lowest-is (has w) 0 64) in
-      let l = f .within in
-      (omega arith, (λ j h. true-implies (has w j) (ok j) (λ t. never t (f .none j (omega arith) h))), (λ h. f .found (omega arith)))
+      ((λ j h. true-implies (has w j) (ok j) (λ t. never t (f .none j (omega arith) h))), (λ j h. refl), f)
 
-  pub pass-on : (y : ℕ) {r : ℕ} → y < 64 → Passed y → ok y ≡ true → r ≡ lowest (has w) (y + 1) (64 - (y + 1)) → Passed r × (y < r)
-  pass-on y {r} h p o e =
-      let f : Lowest (has w) (y + 1) (64 - (y + 1)) r = rw e (lowest-is (has w) (y + 1) (64 - (y + 1))) in
-      let l = f .within in
-      let g = f .from in
-      ((omega arith, (λ j k. true-implies (has w j) (ok j) (λ t. at f j k t (decLt j y) (decLt y j))), (λ k. f .found (omega arith))), omega arith)
+  pub pass-bit : (rest y : ℕ) → y < 64 → Passed rest y → has w y ≡ true
+  pass-bit rest y h p = sym (p .1 y (omega arith)) ∙ p .2 .found (omega arith)
+
+  pub pass-on : (rest y next : ℕ) {r : ℕ} → y < 64 → Passed rest y → ok y ≡ true → ((j : ℕ) → has next j ≡ (has rest j && not (eqb (lowest (has rest) 0 64) j))) → r ≡ lowest (has next) 0 64 → Passed next r × (y < r)
+  pass-on rest y next {r} h p o g e =
+      ((λ j k. true-implies (has w j) (ok j) (λ t. at j k t (decLt j y) (decLt y j)), (λ j k. later j (omega (arith, past-y))), f), past-y)
     where
-      at : Lowest (has w) (y + 1) (64 - (y + 1)) r → (j : ℕ) → j < r → has w j ≡ true → Dec (j < y) → Dec (y < j) → ok j ≡ true
-      at f j k t (yes a) b = implies-true (has w j) (ok j) (p .1 j a) t
-      at f j k t (no a) (yes b) = never t (f .none j (omega arith) k)
-      at f j k t (no a) (no b) = let same : y ≡ j = omega arith in ap ok (sym same) ∙ o
+      f : Lowest (has next) 0 64 r
+      f = rw e (lowest-is (has next) 0 64)
 
-  pub pass-end : (k y : ℕ) → k ≤ 64 → 64 ≤ y → Passed y → true ≡ every k (λ j. implies (has w j) (ok j))
-  pass-end k y h l p = sym (true-every (λ j. implies (has w j) (ok j)) k (λ j i. p .1 j (omega arith)))
+      -- what is left: the bits of the rest but y
+      left : (j : ℕ) → has next j ≡ (has rest j && not (eqb y j))
+      left j = rw (lowest-at (has rest) (p .2)) (g j)
+
+      later : (j : ℕ) → y < j → has next j ≡ has w j
+      later j l = left j ∙ rw (ne-eqb y j (λ q. omega arith), and-yes) (p .1 j (omega arith))
+
+      -- none of them is at y or before
+      gone : (j : ℕ) → Dec (j < y) → j ≤ y → has next j ≡ false
+      gone j (yes l) k = left j ∙ rw (p .2 .none j (omega arith) l)
+      gone j (no l) k = left j ∙ and-false (has rest j) _ (rw (eq-eqb y j (omega arith)))
+
+      past-y : y < r
+      past-y = by-contra (suc y) r (λ l. never (f .found (omega arith)) (gone r (decLt r y) (omega arith)))
+
+      at : (j : ℕ) → j < r → has w j ≡ true → Dec (j < y) → Dec (y < j) → ok j ≡ true
+      at j k t (yes a) b = implies-true (has w j) (ok j) (p .0 j a) t
+      at j k t (no a) (yes b) = never t (sym (later j b) ∙ f .none j (omega arith) k)
+      at j k t (no a) (no b) = let same : y ≡ j = omega arith in ap ok (sym same) ∙ o
+
+  pub pass-end : (k rest y : ℕ) → k ≤ 64 → 64 ≤ y → Passed rest y → true ≡ every k (λ j. implies (has w j) (ok j))
+  pass-end k rest y h l p = sym (true-every (λ j. implies (has w j) (ok j)) k (λ j i. p .0 j (omega arith)))
 
   pub pass-fails : (k y : ℕ) → y < k → has w y ≡ true → ok y ≡ false → false ≡ every k (λ j. implies (has w j) (ok j))
   unfolding implies

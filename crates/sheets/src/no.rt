@@ -1,13 +1,13 @@
 // The no check: numbers 1 to 5, 9, 11, 12 and 13 of document 01's table, else ACCEPTED.
 ghost use mathlib.Core.Path.{_≡_};
 ghost use mathlib.Core.Bool.{not, _&&_};
-ghost use Prim.Native.Nat.{ℕ, _*_, _≤_, _<_, _/_};
+ghost use Prim.Native.Nat.{_*_, _≤_, _<_, _/_};
 ghost use lib.ListN.{length};
 ghost use Rattle.pack.specs.World.{lineAt, obeys};
 ghost use Rattle.pack.specs.Record.{linesOf, recordCount};
 ghost use Rattle.pack.specs.Marks.{counted};
 ghost use Rattle.pack.specs.Question.{checkQuestion};
-ghost use Rattle.sheets.specs.NoSheet.{worldOf, rowsOf, thingsIn, lowestBroken, checkWorld, checkRows, checkNo};
+ghost use Rattle.sheets.specs.NoSheet.{worldOf, rowsOf, lowestBroken, checkWorld, checkRows, checkNo};
 ghost use Rattle.sheets.specs.Inner.{ThingsFit, LinesFit};
 ghost use Rattle.sheets.specs.Answers.{noNumber, noPlace, code};
 use crate::number::place_code;

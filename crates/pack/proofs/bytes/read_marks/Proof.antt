@@ -2,8 +2,7 @@ use Rattle.pack.proofs.Parts.{cut, fill-on, fill-end}
 use Rattle.pack.specs.Bytes.{wordsIn, wordIn, part, listed}
 use lib.ListN.{length, take, length-take, length-drop, length-set}
 use native.Mathlib.Omega.{arith}
-use mathlib.Core.List.{_++_}
-use mathlib.Core.Path.{_≡_, refl, _∙_}
+use mathlib.Core.Path.{_≡_, refl}
 use Prim.Native.Nat.{_≤_, _-_}
 -- `pack::bytes::read_marks` meets its contract: word by word.
 use Rattle.pack.proofs.bytes.read_marks.Statement.{statement}

@@ -1,6 +1,4 @@
-use Rattle.pack.proofs.Parts.{cut, cut-length}
-use Rattle.pack.specs.Record.{keepsIn}
-use mathlib.Core.Path.{ap, _∙_}
+use Rattle.pack.proofs.Parts.{cut}
 -- `pack::check::place_keeps` meets its contract.
 use borrow.Author.Needs.{needs}
 use Rattle.pack.proofs.check.place_keeps.Statement.{statement}

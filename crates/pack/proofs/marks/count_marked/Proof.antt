@@ -6,7 +6,7 @@ use lib.ListN.{getD}
 use Rattle.bits.specs.Sets.{countTo}
 use borrow.Author.Needs.{needs}
 use native.Mathlib.Omega.{arith}
-use Prim.Native.Nat.{ℕ, _≤_, _-_, _*_}
+use Prim.Native.Nat.{_≤_, _-_, _*_}
 use mathlib.Core.Path.{_≡_, refl, ap, _∙_}
 -- `pack::marks::count_marked` meets its contract: word by word.
 use Rattle.pack.proofs.marks.count_marked.Statement.{statement}

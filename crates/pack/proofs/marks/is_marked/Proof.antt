@@ -1,7 +1,4 @@
 use Rattle.pack.specs.Marks.{marked}
-use Rattle.bits.specs.Bit.{has}
-use Prim.Native.Nat.{ℕ, _%_}
-use mathlib.Core.Path.{ap, _∙_}
 -- `pack::marks::is_marked` meets its contract.
 use borrow.Author.Needs.{needs}
 use Rattle.pack.proofs.marks.is_marked.Statement.{statement}

@@ -1,7 +1,6 @@
 use Rattle.pack.specs.Marks.{marksFit}
 use borrow.Author.Tests.{ne-eqb}
 use lib.Dec.{leb}
-use Prim.Native.Nat.{ℕ}
 use mathlib.Core.Path.{ap}
 -- `pack::marks::marks_fit` meets its contract.
 use borrow.Author.Needs.{needs}

@@ -1,5 +1,5 @@
-use Rattle.pack.specs.Question.{checkQuestion, afterPack}
-use mathlib.Core.Path.{sym, ap, _∙_}
+use Rattle.pack.specs.Question.{checkQuestion}
+use mathlib.Core.Path.{sym, _∙_}
 -- `pack::question::check_question` meets its contract: the pack's refusal, or what the marks and the goal give.
 use borrow.Author.Needs.{needs}
 use Rattle.pack.proofs.question.check_question.Statement.{statement}

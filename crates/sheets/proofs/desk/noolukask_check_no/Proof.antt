@@ -1,6 +1,5 @@
 use Rattle.sheets.specs.Desk.{noCode}
 use borrow.Author.Tests.{ne-eqb, eq-eqb}
-use mathlib.Core.Path.{_≡_, refl, sym, ap, _∙_}
 -- `sheets::desk::noolukask_check_no` meets its contract.
 use borrow.Author.Needs.{needs}
 use Rattle.sheets.proofs.desk.noolukask_check_no.Statement.{statement}

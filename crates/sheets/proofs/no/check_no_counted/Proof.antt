@@ -3,7 +3,6 @@ use Rattle.sheets.specs.NoSheet.{checkNo}
 use Rattle.pack.proofs.QuestionLaws.{asked}
 use borrow.Author.Tests.{le-leb, lt-leb, ne-eqb, eq-eqb}
 use native.Mathlib.Omega.{arith}
-use mathlib.Core.Path.{sym, ap, _∙_}
 -- `sheets::no::check_no_counted` meets its contract, test by test.
 use borrow.Author.Needs.{needs}
 use Rattle.sheets.proofs.no.check_no_counted.Statement.{statement}

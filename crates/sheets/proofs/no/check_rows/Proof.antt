@@ -1,14 +1,10 @@
 use Rattle.sheets.proofs.NoLaws.{rows-few, things-fit, lines-fit, all-rows}
-use Rattle.sheets.specs.NoSheet.{rowsOf, lowestForbidden, checkRows}
+use Rattle.sheets.specs.NoSheet.{checkRows}
 use Rattle.pack.proofs.RecordLaws.{lines-valid}
 use Rattle.pack.proofs.QuestionLaws.{asked}
 use Rattle.pack.specs.Record.{linesOf}
-use Rattle.bits.proofs.SetLaws.{lowest-is}
-use Rattle.bits.specs.Sets.{lowest}
 use borrow.Author.Tests.{lt-ltb, le-ltb}
 use native.Mathlib.Omega.{arith}
-use Prim.Native.Nat.{_≤_}
-use mathlib.Core.Path.{_≡_, sym, ap, _∙_}
 -- `sheets::no::check_rows` meets its contract.
 use borrow.Author.Needs.{needs}
 use Rattle.sheets.proofs.no.check_rows.Statement.{statement}

@@ -1,9 +1,7 @@
 use Rattle.sheets.specs.NoSheet.{checkWorld}
 use Rattle.pack.proofs.RecordLaws.{lines-length}
 use borrow.Author.Tests.{lt-ltb, le-ltb}
-use native.Mathlib.Omega.{arith}
-use Prim.Native.Nat.{_≤_}
-use mathlib.Core.Path.{sym, ap, _∙_}
+use mathlib.Core.Path.{sym, _∙_}
 -- `sheets::no::check_world` meets its contract.
 use borrow.Author.Needs.{needs}
 use Rattle.sheets.proofs.no.check_world.Statement.{statement}

@@ -1,8 +1,6 @@
-use Rattle.sheets.specs.Inner.{LineFits}
 use Rattle.sheets.specs.NoSheet.{worldOf}
 use Rattle.pack.proofs.RecordLaws.{lines-length, lines-at}
 use Rattle.pack.specs.World.{obeys}
-use Rattle.pack.specs.declared.line.Line.{Line}
 use native.Mathlib.Omega.{arith}
 use mathlib.Core.Bool.{not}
 use mathlib.Core.Path.{sym, ap, _∙_}

@@ -1,10 +1,9 @@
-use Rattle.sheets.specs.NoSheet.{rowsOf, forbidden, lowestForbidden}
+use Rattle.sheets.specs.NoSheet.{forbidden, lowestForbidden}
 use Rattle.bits.proofs.SetLaws.{lowest-on, lowest-here, lowest-end}
 use Rattle.bits.specs.Sets.{lowest}
 use native.Mathlib.Omega.{arith}
-use native.Mathlib.Nat.{sub-zero}
-use Prim.Native.Nat.{_≤_, _-_, _*_, _/_, ℕ}
-use mathlib.Core.Path.{_≡_, refl, sym, _∙_, ap}
+use Prim.Native.Nat.{_≤_, _-_}
+use mathlib.Core.Path.{_≡_, sym, _∙_, ap}
 -- `sheets::row::lowest_forbidden` meets its contract: what is left of the search is the whole of it.
 use Rattle.sheets.proofs.row.lowest_forbidden.Statement.{statement}
 use Rattle.sheets.proofs.row.lowest_forbidden.Tie as tie

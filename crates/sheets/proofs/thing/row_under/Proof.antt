@@ -1,5 +1,4 @@
 use Rattle.sheets.proofs.RowLaws.{implied, not-implied, low}
-use native.Mathlib.Nat.{mod-eq-of-lt}
 -- `sheets::thing::row_under` meets its contract.
 use borrow.Author.Needs.{needs}
 use Rattle.sheets.proofs.thing.row_under.Statement.{statement}

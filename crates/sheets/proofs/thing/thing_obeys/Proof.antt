@@ -3,7 +3,7 @@ use Rattle.sheets.specs.NoSheet.{rowAt}
 use Rattle.pack.specs.World.{implies, obeysAt}
 use Rattle.bits.specs.Bit.{has}
 use mathlib.Core.Bool.{Bool}
-use mathlib.Core.Path.{sym, ap, _∙_}
+use mathlib.Core.Path.{ap, _∙_}
 -- `sheets::thing::thing_obeys` meets its contract, variant by variant.
 use borrow.Author.Needs.{needs}
 use Rattle.sheets.proofs.thing.thing_obeys.Statement.{statement}

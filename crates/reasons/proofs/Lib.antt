@@ -1,0 +1,6 @@
+-- The laws: of picking over any property of place sets, of the printed set, of reach and the module, that nothing is lost by it; C1 to C10.
+pub mod PickLaws
+pub mod PrintedLaws
+pub mod ReachLaws
+pub mod InsideLaws
+pub mod ReasonCases

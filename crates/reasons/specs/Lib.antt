@@ -1,0 +1,3 @@
+-- Why a goal follows, in definitions: the printed set, and the module.
+pub mod Printed
+pub mod Reach

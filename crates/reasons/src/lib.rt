@@ -1,0 +1,1 @@
+// Why a goal follows: the module and the printed set.
