@@ -65,8 +65,8 @@ pub extern "C" fn noolukask_check_question<'a>(
             b as usize,
         ));
     }
-    let none = [0u64; 0];
-    checked_code(check_question(n as usize, m as usize, pack, &none, a as usize, b as usize))
+    let unread = [0u64; 0];
+    checked_code(check_question(n as usize, m as usize, pack, &unread, a as usize, b as usize))
 }
 
 // What the verdict call returns.
