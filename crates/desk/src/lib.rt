@@ -66,7 +66,14 @@ pub extern "C" fn noolukask_check_question<'a>(
         ));
     }
     let unread = [0u64; 0];
-    checked_code(check_question(n as usize, m as usize, pack, &unread, a as usize, b as usize))
+    checked_code(check_question(
+        n as usize,
+        m as usize,
+        pack,
+        &unread,
+        a as usize,
+        b as usize,
+    ))
 }
 
 // What the verdict call returns.
