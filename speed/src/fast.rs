@@ -8,7 +8,7 @@ fn word(bytes: &[u8], index: usize) -> u64 {
 }
 
 /// Kind, a, b, c of a record.
-fn fields(pack: &[u8], place: usize) -> [usize; 4] {
+pub fn fields(pack: &[u8], place: usize) -> [usize; 4] {
     let record = word(pack, place);
     [0, 8, 16, 24].map(|shift| (record >> shift & 255) as usize)
 }
@@ -41,7 +41,7 @@ pub fn check_pack(n: u64, m: u64, pack: &[u8]) -> u64 {
 }
 
 /// The record count and the mark words, or what a sheet call returns for numbers 1 to 5.
-fn question(q: &Question) -> Result<(usize, [u64; 16]), u64> {
+pub fn question(q: &Question) -> Result<(usize, [u64; 16]), u64> {
     let back = check_pack(q.n, q.m, &q.pack);
     match back & 255 {
         0 => (),
@@ -64,7 +64,7 @@ fn question(q: &Question) -> Result<(usize, [u64; 16]), u64> {
     Ok((count, marks))
 }
 
-fn bit(row: u64, index: usize) -> bool {
+pub fn bit(row: u64, index: usize) -> bool {
     row >> (index & 63) & 1 == 1
 }
 

@@ -171,3 +171,30 @@ pub fn full_no_sheet(rng: &mut Rng) -> (Question, Vec<u8>) {
     let world = full();
     (packs::question(64, 8, &world.pack(rng), 1, 0), world.sheet())
 }
+
+/// 1,024 records of all kinds of which none puts anything into 0: that 1 is under 0 never follows.
+pub fn open_pack(rng: &mut Rng) -> Question {
+    let mut records = Vec::new();
+    while records.len() < RECORDS {
+        let drawn = record(rng.between(1, 6), rng.below(64), rng.below(64), rng.below(64));
+        let gained = match drawn[0] {
+            1 => drawn[2],
+            2 | 4 => drawn[3],
+            _ => 1,
+        };
+        if gained != 0 {
+            records.push(drawn);
+        }
+    }
+    packs::question(64, 8, &records, 1, 0)
+}
+
+/// Every link there can be, by 134 records, and then 400 chains, which find nothing to add.
+/// That 1 is under 0 does not follow.
+pub fn chains_on_full(rng: &mut Rng) -> Question {
+    let mut records: Vec<[u8; 4]> = (0..64).filter(|&x| x != 1).map(|x| [1, x, 1, 0]).collect();
+    records.extend((0..64).map(|y| [3, 1, 0, y]));
+    records.extend((1..8).map(|role| [5, 0, role, 0]));
+    records.extend((0..CHAINS).map(|_| record(6, rng.below(8), rng.below(8), rng.below(8))));
+    packs::question(64, 8, &records, 1, 0)
+}
