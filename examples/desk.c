@@ -1,5 +1,5 @@
-/* The desk on the valve pack: checks the pack, then good, damaged and wrong-sort
- * sheets, and says in words what came back.
+/* The desk on the valve pack: checks the pack, asks for verdicts with their sheets, checks
+ * good, damaged and wrong-sort sheets, and says in words what came back.
  *
  * gcc -Iinclude examples/desk.c target/staticlib/libsheets.a target/staticlib/libdesk.a
  */
@@ -41,8 +41,8 @@ static const uint8_t no_rows[15] = {
 };
 
 static const char *const names[16] = {
-    "accepted", "SIZES", "PACK", "RECORD", "MARKS", "GOAL", "?", "?",
-    "?", "LENGTH", "STEP", "ROW", "BROKEN", "NOT SHOWN", "?", "?",
+    "accepted", "SIZES", "PACK", "RECORD", "MARKS", "GOAL", "TOO LONG", "?",
+    "NO ROOM", "LENGTH", "STEP", "ROW", "BROKEN", "NOT SHOWN", "?", "?",
 };
 
 /* What a number's place counts, or NULL where it gives none. */
@@ -81,6 +81,24 @@ static uint8_t *copy_of(const uint8_t *bytes, size_t len)
     return memcpy(guarded(len), bytes, len);
 }
 
+/* The verdict on (a,b), our sheet for it in a buffer of just its size, and what its check says. */
+static void ask(const uint8_t *pack, const uint8_t *marks, uint64_t a, uint64_t b)
+{
+#define QUESTION N, M, pack, sizeof valve_pack, marks, 128, a, b
+    uint64_t verdict = noolukask_verdict(QUESTION);
+    uint64_t refusal = noolukask_write_sheet(QUESTION, NULL, 0); /* NO ROOM, with the bytes needed */
+    size_t len = (size_t)(refusal >> 8);
+    uint8_t *sheet = guarded(len);
+    uint64_t value = noolukask_write_sheet(QUESTION, sheet, len) >> 8;
+    printf("  (%" PRIu64 ",%" PRIu64 "): %s, by a sheet of %" PRIu64 " %s, %zu bytes\n", a, b,
+           verdict == 256 ? "FOLLOWS" : "NOT", value / 2, value % 2 == 1 ? "steps" : "rows", len);
+    if (value % 2 == 1)
+        say("    the yes check of it", noolukask_check_yes(QUESTION, sheet, len));
+    else
+        say("    the no check of it", noolukask_check_no(QUESTION, sheet, len));
+    unguard(sheet, len);
+}
+
 int main(void)
 {
     uint8_t *pack = copy_of(valve_pack, sizeof valve_pack);
@@ -99,6 +117,10 @@ int main(void)
     back = noolukask_check_question(N, M, pack, sizeof valve_pack, marks, 128, 0, 1);
     printf("the question (0,1), all marked: %s, %" PRIu64 " records\n",
            back % 256 == 0 ? "nothing refused" : names[back % 16], back >> 8);
+
+    puts("our verdicts and sheets, all marked");
+    ask(pack, marks, 0, 1);
+    ask(pack, marks, 2, 1);
 
 #define CHECK(sort, a, b, sheet, len) \
     noolukask_check_##sort(N, M, pack, sizeof valve_pack, marks, 128, a, b, sheet, len)

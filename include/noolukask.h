@@ -51,15 +51,16 @@ enum noolukask_number {
 
 /* ---- Library desk: packs, questions, verdicts and our sheets --------------------
  * The calls return the table's number in the low byte (0: nothing is refused) and a
- * value above it (back >> 8): with RECORD the lowest bad place; where nothing is
- * refused the number of records; else 0. Places count from 0.
+ * value above it (back >> 8): with RECORD the lowest bad place, with NO ROOM the bytes
+ * needed, with the other numbers 0, and where nothing is refused what the call says.
+ * Places count from 0.
  */
 
-/* Tests numbers 1 to 3. */
+/* Tests numbers 1 to 3; where nothing is refused the value is the number of records. */
 uint64_t noolukask_check_pack(uint64_t n, uint64_t m,
                               const uint8_t *pack, size_t pack_len);
 
-/* Tests numbers 1 to 5. */
+/* Tests numbers 1 to 5; the value as above. */
 uint64_t noolukask_check_question(uint64_t n, uint64_t m,
                                   const uint8_t *pack, size_t pack_len,
                                   const uint8_t *marks, size_t marks_len,
