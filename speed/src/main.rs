@@ -89,8 +89,8 @@ fn measure(what: &str, ours: Call, rust: Call, (q, sheet): (Question, Vec<u8>), 
     println!("{what:<72} {best_ours:>10} {best_rust:>10} {:>6.2}", best_ours as f64 / best_rust as f64);
 }
 
-/// The verdict call or the sheet writer; a sheet of this many bytes is lent. Passes and facts are those
-/// of the Rust engine up to the goal or the end.
+/// The verdict call, or the sheet writer with room for any sheet of ours. Passes and facts are those of
+/// the Rust engine up to the goal or the end.
 fn measure_engine(what: &str, write: bool, q: Question, turns: u32) {
     let (count, marks) = fast::question(&q).expect("a good question");
     let run = Engine::settle::<false>(&q, count, &marks);
@@ -123,7 +123,8 @@ fn measure_checks(rng: &mut Rng) {
 fn measure_engines(rng: &mut Rng) {
     measure_engine("verdict, 1,024 mixed records", false, inputs::open_pack(rng), 200);
     measure_engine("verdict, 400 chains on full tables", false, inputs::chains_on_full(rng), 100);
-    measure_engine("verdict, 63 records in reverse", false, runs::reverse(64), 200);
+    let reverse = Question { a: 63, b: 0, ..runs::reverse(64) };
+    measure_engine("verdict, 63 records in reverse", false, reverse, 200);
     measure_engine("verdict, counters", false, runs::counters(64, 8), 2);
     measure_engine("yes sheet, the longest", true, runs::fullest(), 200);
     measure_engine("no sheet, 1,024 mixed records", true, inputs::open_pack(rng), 200);
