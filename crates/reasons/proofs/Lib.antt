@@ -4,3 +4,4 @@ pub mod PrintedLaws
 pub mod ReachLaws
 pub mod InsideLaws
 pub mod ReasonCases
+pub mod OutLaws

@@ -1,3 +1,4 @@
 -- Why a goal follows, in definitions: the printed set, and the module.
 pub mod Printed
 pub mod Reach
+pub mod OutMarks
