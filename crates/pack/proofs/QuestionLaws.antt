@@ -1,20 +1,21 @@
--- Laws of the question check: a question that is counted has a good pack, marks that fit and a goal below n.
+-- Laws of the question check: a question is taken exactly when it has a good pack, marks that fit and a goal below n.
 use mathlib.Core.Path.{_≡_, refl}
 use mathlib.Core.Bool.{Bool, true, false, cond}
 use mathlib.Core.List.{List}
-use Prim.Native.Nat.{ℕ, _<_}
+use Prim.Native.Nat.{ℕ, _≤_, _<_}
 use native.Mathlib.Omega.{arith}
 use lib.Dec.{ltb}
-use borrow.Author.Tests.{ltb-true}
-use Rattle.bits.proofs.Truth.{and-true}
+use lib.ListN.{length}
+use borrow.Author.Tests.{ltb-true, lt-ltb}
+use Rattle.bits.proofs.Truth.{and-true, never}
 use Rattle.pack.specs.declared.check.Refusal.the-variants.{Marks, Goal}
 use Rattle.pack.specs.declared.check.Checked.{Checked}
 use Rattle.pack.specs.declared.check.Checked.the-variants.{Refused, Count}
-use Rattle.pack.specs.Marks.{marksFit}
+use Rattle.pack.specs.Marks.{marksFit, marked}
 use Rattle.pack.specs.Pack.{checkPack}
 use Rattle.pack.specs.Question.{goalFits, afterPack, checkQuestion}
-use Rattle.pack.proofs.PackLaws.{Accepted, counted}
-use Rattle.pack.proofs.MarkLaws.{Fit, fit}
+use Rattle.pack.proofs.PackLaws.{Accepted, counted, counts}
+use Rattle.pack.proofs.MarkLaws.{Fit, fit, fits}
 
 pub record Asked (n m : ℕ) (s ws : List ℕ) (a b k : ℕ) : Type 0 where
   pub pack : Accepted n m s k
@@ -47,3 +48,20 @@ asked n m s ws a b {k} = after (checkPack n m s) refl
     after : (r : Checked) → checkPack n m s ≡ r → afterPack r n ws a b ≡ Count k → Asked n m s ws a b k
     after (Refused why) e h = let z : _≡_ {A = ℕ} 0 1 = cc in absurd (omega arith)
     after (Count j) e h = counts j e (marksFit ws j) refl h
+
+-- AND ONE THAT KEEPS THEM IS TAKEN
+pub asks : (n m : ℕ) (s ws : List ℕ) (a b : ℕ) {k : ℕ} → Asked n m s ws a b k → checkQuestion n m s ws a b ≡ Count k
+unfolding checkQuestion
+asks n m s ws a b {k} q =
+    let most : k ≤ 1024 = omega (arith, q .pack .count, q .pack .size) in
+    rw (counts n m s (q .pack), fits ws most (q .marks), lt-ltb a n (q .goalA), lt-ltb b n (q .goalB))
+
+-- so it is taken with fewer marks too
+pub asks-fewer : (n m : ℕ) (s ws : List ℕ) (a b : ℕ) {k : ℕ} → checkQuestion n m s ws a b ≡ Count k → (ws′ : List ℕ) → length ws′ ≡ 16 → ((i : ℕ) → marked ws′ i ≡ true → marked ws i ≡ true) → checkQuestion n m s ws′ a b ≡ Count k
+asks-fewer n m s ws a b {k} h ws′ l fewer =
+    let q = asked n m s ws a b h in
+    asks n m s ws′ a b (record { pack = q .pack; marks = record { sixteen = l; above = λ i g. out i (q .marks .above i g) (marked ws′ i) refl }; goalA = q .goalA; goalB = q .goalB })
+  where
+    out : (i : ℕ) → marked ws i ≡ false → (t : Bool) → marked ws′ i ≡ t → t ≡ false
+    out i e true f = never (fewer i f) e
+    out i e false f = refl

@@ -1,5 +1,6 @@
 -- What the question check answers: the pack check, then the marks, then the goal.
 use Prim.Native.Nat.{ℕ}
+use mathlib.Core.Path.{_≡_}
 use mathlib.Core.List.{List}
 use mathlib.Core.Bool.{Bool, cond, _&&_}
 use lib.Dec.{ltb}
@@ -26,3 +27,7 @@ afterPack (Count count) n ws a b = checkCounted n count ws a b
 
 unfoldable pub checkQuestion : ℕ → ℕ → List ℕ → List ℕ → ℕ → ℕ → Checked
 checkQuestion n m s ws a b = afterPack (checkPack n m s) n ws a b
+
+-- the question is taken: nothing of 1 to 5 is refused
+abbrev pub Taken : ℕ → ℕ → List ℕ → List ℕ → ℕ → ℕ → Type 0
+Taken n m s ws a b = (k : ℕ) × (checkQuestion n m s ws a b ≡ Count k)

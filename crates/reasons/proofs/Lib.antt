@@ -5,3 +5,5 @@ pub mod ReachLaws
 pub mod InsideLaws
 pub mod ReasonCases
 pub mod OutLaws
+pub mod CutLaws
+pub mod HalveLaws

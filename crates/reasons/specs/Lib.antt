@@ -2,3 +2,4 @@
 pub mod Printed
 pub mod Reach
 pub mod OutMarks
+pub mod Inner

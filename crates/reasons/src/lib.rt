@@ -1,1 +1,2 @@
 // Why a goal follows: the module and the printed set.
+pub mod cut;

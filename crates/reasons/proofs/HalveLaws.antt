@@ -1,0 +1,117 @@
+-- Laws of halving: of the places from i on those that can go together are cut out, the next one is kept, and so on; what is left is picked.
+use mathlib.Core.Path.{_≡_, refl, sym, _∙_, fun-ext}
+use mathlib.Core.Bool.{Bool, true, false, not, _&&_}
+use mathlib.Core.List.{List}
+use Prim.Native.Nat.{ℕ, _+_, _≤_, _<_}
+use native.Mathlib.Decide.{decLt}
+use native.Mathlib.Omega.{arith}
+use lib.Dec.{leb, ltb}
+use lib.ListN.{length}
+use borrow.Author.Tests.{lt-ltb, le-ltb, le-leb, lt-leb}
+use Rattle.bits.proofs.Truth.{and-true, and-false, and-yes, never}
+use Rattle.pack.specs.Marks.{marked}
+use Rattle.pack.proofs.MarkLaws.{unmarked-past}
+use Rattle.reasons.specs.Printed.{Within, IsPicked}
+use Rattle.reasons.specs.OutMarks.{marksOf}
+use Rattle.reasons.specs.Inner.{cutOut, Between, Next}
+use Rattle.reasons.proofs.OutLaws.{marked-of, marked-past}
+use Rattle.reasons.proofs.PickLaws.{Settled, Cut, cut-within, cut-settled, cut-picked, kept-settled, settled-picked}
+
+module _ (P : ℕ → Bool) (i k : ℕ) where
+  -- outside the range all is as it was; inside it nothing is left
+  pub cut-before : (j : ℕ) → j < i → cutOut P i k j ≡ P j
+  unfolding cutOut
+  cut-before j h = rw (lt-leb i j h) (and-yes (P j))
+
+  pub cut-after : (j : ℕ) → k ≤ j → cutOut P i k j ≡ P j
+  unfolding cutOut
+  cut-after j h = rw (le-ltb j k h, and-false (leb i j) false refl) (and-yes (P j))
+
+  pub cut-gone : (j : ℕ) → i ≤ j → j < k → cutOut P i k j ≡ false
+  unfolding cutOut
+  cut-gone j h g = rw (le-leb i j h, lt-ltb j k g) (and-false (P j) false refl)
+
+  pub cut-fewer : (j : ℕ) → cutOut P i k j ≡ true → P j ≡ true
+  unfolding cutOut
+  cut-fewer j h = and-true (P j) (not (leb i j && ltb j k)) h .0
+
+  pub cut-out : (len : ℕ) → Cut len i k P (cutOut P i k)
+  cut-out len = record { gone = cut-gone; before = cut-before; after = λ j h _. cut-after j h }
+
+-- A RANGE CUT OUT OF MARKS is cut out of the places they mark
+pub cut-marked : (ws : List ℕ) (i k : ℕ) → length ws ≡ 16 → marked (marksOf (cutOut (marked ws) i k)) ≡ cutOut (marked ws) i k
+cut-marked ws i k l = fun-ext (λ j. go j (decLt j 1024))
+  where
+    past : (j : ℕ) → 1024 ≤ j → (t : Bool) → cutOut (marked ws) i k j ≡ t → false ≡ t
+    past j h true e = never (cut-fewer (marked ws) i k j e) (unmarked-past ws j (omega arith))
+    past j h false e = refl
+
+    go : (j : ℕ) → Dec (j < 1024) → marked (marksOf (cutOut (marked ws) i k)) j ≡ cutOut (marked ws) i k j
+    go j (yes h) = marked-of (cutOut (marked ws) i k) j h
+    go j (no h) = marked-past (cutOut (marked ws) i k) j (omega arith) ∙ past j (omega arith) (cutOut (marked ws) i k j) refl
+
+-- of S, the places of T are left, and those below i are settled
+pub record Halved (len : ℕ) (F : (ℕ → Bool) → Type 0) (S T : ℕ → Bool) (i : ℕ) : Type 0 where
+  pub fewer : (j : ℕ) → T j ≡ true → S j ≡ true
+  pub holds : F T
+  pub settled : Settled len F i T
+  pub picks : (P : ℕ → Bool) → IsPicked len F T P → IsPicked len F S P
+
+module _ (len : ℕ) (F : (ℕ → Bool) → Type 0) (mono : (P Q : ℕ → Bool) → Within len P Q → F P → F Q) where
+  pub halved-start : (S : ℕ → Bool) → F S → Halved len F S S 0
+  halved-start S f = record { fewer = λ j h. h; holds = f; settled = λ Q w g j l. absurd (omega arith); picks = λ P p. p }
+
+  module _ (S T : ℕ → Bool) (i : ℕ) (t : Halved len F S T i) where
+    -- places that nothing is left of are settled
+    pub halved-on : (k : ℕ) → ((j : ℕ) → i ≤ j → j < k → T j ≡ false) → Halved len F S T k
+    halved-on k none = record { fewer = t .fewer; holds = t .holds; settled = λ Q w f j h l e. go Q w f j h l e (decLt j i); picks = t .picks }
+      where
+        go : (Q : ℕ → Bool) → Within len Q T → F Q → (j : ℕ) → j < k → j < len → T j ≡ true → Dec (j < i) → Q j ≡ true
+        go Q w f j h l e (yes p) = t .settled Q w f j p l e
+        go Q w f j h l e (no p) = never e (none j (omega arith) h)
+
+    -- ALL SETTLED, WHAT IS LEFT IS THE PICKED SET
+    pub halved-end : len ≤ i → IsPicked len F S T
+    halved-end h = t .picks T (settled-picked len F T (λ Q w f j l. t .settled Q w f j (omega arith)) (t .holds))
+
+    -- A TURN: those that can go are cut out, and the next one is kept
+    pub halved-next : len ≤ 1024 → (k : ℕ) → Next F T i k → Halved len F S (cutOut T i k) (k + 1)
+    halved-next most k x = record {
+      fewer = λ j h. t .fewer j (cut-fewer T i k j h);
+      holds = x .goes;
+      settled = go (decLt k 1024);
+      picks = λ P p. t .picks P (cut-picked len i k T (cutOut T i k) (cut-out T i k len) F (t .settled) P p);
+    }
+      where
+        before : Settled len F k (cutOut T i k)
+        before = cut-settled len i k T (cutOut T i k) (cut-out T i k len) F (t .settled)
+
+        one : Cut len k (k + 1) (cutOut T i k) (cutOut T i (k + 1))
+        one = record {
+          gone = λ j h g. cut-gone T i (k + 1) j (omega (arith, x .from)) g;
+          before = λ j h. same j h (decLt j i);
+          after = λ j h _. cut-after T i (k + 1) j h ∙ sym (cut-after T i k j (omega arith));
+        }
+          where
+            same : (j : ℕ) → j < k → Dec (j < i) → cutOut T i (k + 1) j ≡ cutOut T i k j
+            same j h (yes p) = cut-before T i (k + 1) j p ∙ sym (cut-before T i k j p)
+            same j h (no p) = cut-gone T i (k + 1) j (omega arith) (omega arith) ∙ sym (cut-gone T i k j (omega arith) h)
+
+        go : Dec (k < 1024) → Settled len F (k + 1) (cutOut T i k)
+        go (yes p) = kept-settled len k (cutOut T i k) (cutOut T i (k + 1)) one F mono (x .stays p) before
+        go (no p) = λ Q w f j h l. before Q w f j (omega arith) l
+
+  -- WHERE BUT ONE PLACE IS LEFT BETWEEN lo AND hi, that is the next one
+  pub between-end : (T : ℕ → Bool) (i lo hi : ℕ) → Between F T i lo hi → ((j : ℕ) → lo + 1 ≤ j → j < hi → T j ≡ false) → Next F T i lo
+  between-end T i lo hi b none = record {
+    from = b .from;
+    most = omega (arith, b .some, b .most);
+    goes = b .goes;
+    stays = λ _ f. b .stays (mono (cutOut T i (lo + 1)) (cutOut T i hi) (λ j _ h. go j h (decLt j i) (decLt j hi) (decLt j (lo + 1))) f);
+  }
+    where
+      go : (j : ℕ) → cutOut T i (lo + 1) j ≡ true → Dec (j < i) → Dec (j < hi) → Dec (j < lo + 1) → cutOut T i hi j ≡ true
+      go j h (yes p) q r = cut-before T i hi j p ∙ cut-fewer T i (lo + 1) j h
+      go j h (no p) (no q) r = cut-after T i hi j (omega arith) ∙ cut-fewer T i (lo + 1) j h
+      go j h (no p) (yes q) (yes r) = never h (cut-gone T i (lo + 1) j (omega arith) r)
+      go j h (no p) (yes q) (no r) = never (cut-fewer T i (lo + 1) j h) (none j (omega arith) q)
