@@ -1,21 +1,44 @@
 -- Laws of halving: of the places from i on those that can go together are cut out, the next one is kept, and so on; what is left is picked.
-use mathlib.Core.Path.{_≡_, refl, sym, _∙_, fun-ext}
+use mathlib.Core.Path.{_≡_, refl, sym, ap, _∙_, fun-ext, subst}
 use mathlib.Core.Bool.{Bool, true, false, not, _&&_}
 use mathlib.Core.List.{List}
-use Prim.Native.Nat.{ℕ, _+_, _≤_, _<_}
+use Prim.Native.Nat.{ℕ, _+_, _-_, _≤_, _<_}
 use native.Mathlib.Decide.{decLt}
 use native.Mathlib.Omega.{arith}
 use lib.Dec.{leb, ltb}
 use lib.ListN.{length}
 use borrow.Author.Tests.{lt-ltb, le-ltb, le-leb, lt-leb}
 use Rattle.bits.proofs.Truth.{and-true, and-false, and-yes, never}
+use Rattle.bits.specs.Sets.{lowest}
+use Rattle.bits.proofs.SetLaws.{lowest-is}
 use Rattle.pack.specs.Marks.{marked}
 use Rattle.pack.proofs.MarkLaws.{unmarked-past}
 use Rattle.reasons.specs.Printed.{Within, IsPicked}
 use Rattle.reasons.specs.OutMarks.{marksOf}
 use Rattle.reasons.specs.Inner.{cutOut, Between, Next}
-use Rattle.reasons.proofs.OutLaws.{marked-of, marked-past}
+use Rattle.reasons.proofs.OutLaws.{marked-of, marked-past, marks-length}
 use Rattle.reasons.proofs.PickLaws.{Settled, Cut, cut-within, cut-settled, cut-picked, kept-settled, settled-picked}
+
+-- r is the next marked place from i on
+module _ (ws : List ℕ) (i r : ℕ) (e : r ≡ lowest (marked ws) i (1024 - i)) where
+  pub next-up : i ≤ r
+  next-up = omega (arith, e, lowest-is (marked ws) i (1024 - i) .from)
+
+  pub next-most : r ≤ i + (1024 - i)
+  next-most = omega (arith, e, lowest-is (marked ws) i (1024 - i) .within)
+
+  pub next-none : (j : ℕ) → i ≤ j → j < r → marked ws j ≡ false
+  next-none j h g = lowest-is (marked ws) i (1024 - i) .none j h (omega (arith, e))
+
+  pub next-found : r < 1024 → marked ws r ≡ true
+  next-found h = rw e (lowest-is (marked ws) i (1024 - i) .found (omega (arith, e, next-up)))
+
+  pub next-least : (q : ℕ) → i ≤ q → marked ws q ≡ true → r ≤ q
+  next-least q h g = go (decLt q r)
+    where
+      go : Dec (q < r) → r ≤ q
+      go (yes l) = never g (next-none q h l)
+      go (no l) = omega arith
 
 module _ (P : ℕ → Bool) (i k : ℕ) where
   -- outside the range all is as it was; inside it nothing is left
@@ -115,3 +138,39 @@ module _ (len : ℕ) (F : (ℕ → Bool) → Type 0) (mono : (P Q : ℕ → Bool
       go j h (no p) (no q) r = cut-after T i hi j (omega arith) ∙ cut-fewer T i (lo + 1) j h
       go j h (no p) (yes q) (yes r) = never h (cut-gone T i (lo + 1) j (omega arith) r)
       go j h (no p) (yes q) (no r) = never (cut-fewer T i (lo + 1) j h) (none j (omega arith) q)
+
+  -- nothing is cut out of an empty range
+  pub between-start : (T : ℕ → Bool) (i : ℕ) → i < 1024 → F T → (F (cutOut T i 1024) → ⊥) → Between F T i i 1024
+  between-start T i h f lost = record {
+    from = omega arith;
+    some = h;
+    most = omega arith;
+    goes = mono T (cutOut T i i) (λ j _ e. go j (decLt j i) ∙ e) f;
+    stays = lost;
+  }
+    where
+      go : (j : ℕ) → Dec (j < i) → cutOut T i i j ≡ T j
+      go j (yes p) = cut-before T i i j p
+      go j (no p) = cut-after T i i j (omega arith)
+
+-- words that mark what is left of S, those below i settled
+pub record Left (len : ℕ) (F : (ℕ → Bool) → Type 0) (S : ℕ → Bool) (ws : List ℕ) (i : ℕ) : Type 0 where
+  pub words : ws ≡ marksOf (marked ws)
+  pub halved : Halved len F S (marked ws) i
+
+module _ (len : ℕ) (F : (ℕ → Bool) → Type 0) (mono : (P Q : ℕ → Bool) → Within len P Q → F P → F Q) (most : len ≤ 1024) (S : ℕ → Bool) (ws : List ℕ) where
+  pub left-sixteen : ws ≡ marksOf (marked ws) → length ws ≡ 16
+  left-sixteen e = ap length e ∙ marks-length (marked ws)
+
+  -- up to the next marked place
+  pub left-on : (i k : ℕ) → Left len F S ws i → k ≡ lowest (marked ws) i (1024 - i) → Left len F S ws k
+  left-on i k t e = record { words = t .words; halved = halved-on len F mono S (marked ws) i (t .halved) k (next-none ws i k e) }
+
+  -- a turn of the loop
+  pub left-next : (i k : ℕ) → Left len F S ws i → Next F (marked ws) i k → (ws′ : List ℕ) → ws′ ≡ marksOf (cutOut (marked ws) i k) → Left len F S ws′ (k + 1)
+  left-next i k t x ws′ e =
+      let same : marked ws′ ≡ cutOut (marked ws) i k = ap marked e ∙ cut-marked ws i k (left-sixteen (t .words)) in
+      record {
+        words = e ∙ ap marksOf (sym same);
+        halved = subst (λ (T : ℕ → Bool). Halved len F S T (k + 1)) (sym same) (halved-next len F mono S (marked ws) i (t .halved) most k x);
+      }

@@ -7,3 +7,4 @@ pub mod ReasonCases
 pub mod OutLaws
 pub mod CutLaws
 pub mod HalveLaws
+pub mod AskLaws

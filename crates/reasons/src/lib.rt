@@ -1,2 +1,3 @@
 // Why a goal follows: the module and the printed set.
 pub mod cut;
+pub mod halve;

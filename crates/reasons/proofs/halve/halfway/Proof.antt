@@ -1,0 +1,96 @@
+use borrow.Author.Needs.{needs}
+use Rattle.reasons.proofs.HalveLaws.{next-up, next-most, next-found, next-least}
+use Rattle.pack.specs.Marks.{marked}
+use native.Mathlib.Omega.{arith}
+use mathlib.Core.Path.{_≡_}
+use mathlib.Core.Bool.{true}
+use Prim.Native.Nat.{_≤_, _<_, _-_}
+-- `reasons::halve::halfway` meets its contract: half goes on by one marked place while whole goes on by two.
+use Rattle.reasons.proofs.halve.halfway.Statement.{statement}
+use Rattle.reasons.proofs.halve.halfway.Tie as tie
+
+abbrev Inv-loop : tie.InvT-loop
+Inv-loop marks from to half₀ whole₀ half whole = (from < half) × (half < to) × (half < whole) × (whole < 1024 → marked marks whole ≡ true)
+
+abbrev μ-loop : tie.MeasureT-loop
+μ-loop marks from to half₀ whole₀ half whole = to - half
+
+add-next-marked : tie.Need-add-next-marked Inv-loop μ-loop
+add-next-marked c = omega (arith, c .before .pre)
+
+next-marked-requires : tie.Need-next-marked-requires Inv-loop μ-loop
+next-marked-requires c κs = search needs
+
+add-next-marked-2 : tie.Need-add-next-marked-2 Inv-loop μ-loop
+add-next-marked-2 c = omega (arith, c .before .before .pre, next-most _ _ _ (c .next-marked .ensures))
+
+next-marked-requires-2 : tie.Need-next-marked-requires-2 Inv-loop μ-loop
+next-marked-requires-2 c κs = search needs
+
+add-next-marked-3 : tie.Need-add-next-marked-3 Inv-loop μ-loop
+add-next-marked-3 c = omega (arith, c .before .before .before .pre, next-most _ _ _ (c .before .next-marked .ensures), next-most _ _ _ (c .next-marked2 .ensures))
+
+next-marked-requires-3 : tie.Need-next-marked-requires-3 Inv-loop μ-loop
+next-marked-requires-3 c κs = search needs
+
+loop-holds : tie.Need-loop-holds Inv-loop μ-loop
+loop-holds c =
+    let pre = c .before .before .before .before .pre in
+    (omega (arith, next-up _ _ _ (c .before .before .next-marked .ensures)), omega (arith, c .before .before .next-marked .ensures, pre .2), omega (arith, next-up _ _ _ (c .before .next-marked2 .ensures), next-up _ _ _ (c .next-marked3 .ensures)), next-found _ _ _ (c .next-marked3 .ensures))
+
+add-next-marked-4 : tie.Need-add-next-marked-4 Inv-loop μ-loop
+add-next-marked-4 c = omega (arith, c .before .loop .inv)
+
+next-marked-requires-4 : tie.Need-next-marked-requires-4 Inv-loop μ-loop
+next-marked-requires-4 c κs = search needs
+
+add-next-marked-5 : tie.Need-add-next-marked-5 Inv-loop μ-loop
+add-next-marked-5 c = omega (arith, c .before .before .before .before .before .before .before .pre .0)
+
+next-marked-requires-5 : tie.Need-next-marked-requires-5 Inv-loop μ-loop
+next-marked-requires-5 c κs = search needs
+
+add-next-marked-6 : tie.Need-add-next-marked-6 Inv-loop μ-loop
+add-next-marked-6 c = omega (arith, c .before .before .before .before .before .before .before .before .pre .0, next-most _ _ _ (c .next-marked5 .ensures))
+
+next-marked-requires-6 : tie.Need-next-marked-requires-6 Inv-loop μ-loop
+next-marked-requires-6 c κs = search needs
+
+loop-less : tie.Need-loop-less Inv-loop μ-loop
+loop-less c = omega (arith, next-up _ _ _ (c .before .before .next-marked4 .ensures), c .before .before .before .before .loop .inv)
+
+loop-again : tie.Need-loop-again Inv-loop μ-loop
+loop-again c =
+    let l = c .before .before .before .before .loop in
+    let least = next-least _ _ _ (c .before .before .next-marked4 .ensures) (l .whole) (omega (arith, l .inv .2)) (l .inv .3 (omega (arith, c .before .before .before .before .before .before .before .before .before .pre .0))) in (
+      omega (arith, l .inv .0, next-up _ _ _ (c .before .before .next-marked4 .ensures)),
+      omega (arith, least),
+      omega (arith, least, next-up _ _ _ (c .before .next-marked5 .ensures), next-up _ _ _ (c .next-marked6 .ensures)),
+      next-found _ _ _ (c .next-marked6 .ensures),
+    )
+
+returns : tie.Need-returns Inv-loop μ-loop
+returns c = let l = c .before .loop in (l .inv .0, l .inv .1)
+
+pub halfway-spec : {M : Type 1} → statement M
+halfway-spec =
+    tie.close
+    (tie.spec
+    Inv-loop
+    μ-loop
+    add-next-marked
+    next-marked-requires
+    add-next-marked-2
+    next-marked-requires-2
+    add-next-marked-3
+    next-marked-requires-3
+    loop-holds
+    add-next-marked-4
+    next-marked-requires-4
+    add-next-marked-5
+    next-marked-requires-5
+    add-next-marked-6
+    next-marked-requires-6
+    loop-less
+    loop-again
+    returns)
