@@ -1,3 +1,4 @@
 // Why a goal follows: the module and the printed set.
 pub mod cut;
 pub mod halve;
+pub mod out;

@@ -1,0 +1,30 @@
+use borrow.Author.Tests.{ne-eqb, eq-eqb}
+-- `reasons::out::check_reason` meets its contract.
+use borrow.Author.Needs.{needs}
+use Rattle.reasons.proofs.out.check_reason.Statement.{statement}
+use Rattle.reasons.proofs.out.check_reason.Tie as tie
+
+check-question-requires : tie.Need-check-question-requires
+check-question-requires c κs = search needs
+
+returns : tie.Need-returns
+returns c = rw (eq-eqb _ _ (c .before .if1 .taken)) (c .check-question .ensures)
+
+slice-aggregate-check-question : tie.Need-slice-aggregate-check-question
+slice-aggregate-check-question c = search needs
+
+check-question-requires-2 : tie.Need-check-question-requires-2
+check-question-requires-2 c κs = search needs
+
+returns-2 : tie.Need-returns-2
+returns-2 c = rw (ne-eqb _ _ (c .before .before .if1 .left)) (c .check-question2 .ensures)
+
+pub check-reason-spec : {M : Type 1} → statement M
+check-reason-spec =
+    tie.close
+    (tie.spec
+    check-question-requires
+    returns
+    slice-aggregate-check-question
+    check-question-requires-2
+    returns-2)
