@@ -8,3 +8,4 @@ pub mod OutLaws
 pub mod CutLaws
 pub mod HalveLaws
 pub mod AskLaws
+pub mod NameLaws

@@ -10,9 +10,7 @@ use lib.Seq.{ext-getD}
 use borrow.Author.Tests.{eqb-true}
 use Rattle.bits.specs.Bit.{has}
 use Rattle.bits.proofs.BitLaws.{has-ext}
-use Rattle.pack.specs.declared.check.Checked.{Checked}
 use Rattle.pack.specs.declared.check.Checked.the-variants.{Count}
-use Rattle.pack.specs.Bytes.{listed}
 use Rattle.pack.specs.Marks.{marked}
 use Rattle.pack.specs.Question.{checkQuestion}
 use Rattle.pack.proofs.Parts.{listed-length, listed-at}

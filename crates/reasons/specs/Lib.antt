@@ -3,3 +3,4 @@ pub mod Printed
 pub mod Reach
 pub mod OutMarks
 pub mod Inner
+pub mod Names

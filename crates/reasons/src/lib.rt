@@ -2,3 +2,4 @@
 pub mod cut;
 pub mod halve;
 pub mod out;
+pub mod reach;

@@ -1,0 +1,100 @@
+use native.Mathlib.Omega.{arith}
+use mathlib.Core.Path.{sym, _∙_}
+use Rattle.bits.proofs.Truth.{and-yes}
+use Rattle.reasons.specs.Reach.{allIn}
+-- `reasons::reach::left_reached` meets its contract, variant by variant.
+use borrow.Author.Needs.{needs}
+use Rattle.reasons.proofs.reach.left_reached.Statement.{statement}
+use Rattle.reasons.proofs.reach.left_reached.Tie as tie
+
+enum-known-l : tie.Need-enum-known-l
+enum-known-l c = search needs
+
+one-set-requires : tie.Need-one-set-requires
+one-set-requires c κs = let v = rw (c .before .l .given .1) at (c .before .before .before .pre) in omega arith
+
+enum-known-l-2 : tie.Need-enum-known-l-2
+enum-known-l-2 c = search needs
+
+both-set-requires : tie.Need-both-set-requires
+both-set-requires c κs = let v = rw (c .before .l2 .given .1) at (c .before .before .before .pre) in omega arith
+
+enum-known-l-3 : tie.Need-enum-known-l-3
+enum-known-l-3 c = search needs
+
+one-set-requires-2 : tie.Need-one-set-requires-2
+one-set-requires-2 c κs = let v = rw (c .before .l3 .given .1) at (c .before .before .before .pre) in omega arith
+
+enum-known-l-4 : tie.Need-enum-known-l-4
+enum-known-l-4 c = search needs
+
+both-set-requires-2 : tie.Need-both-set-requires-2
+both-set-requires-2 c κs = let v = rw (c .before .l4 .given .1) at (c .before .before .before .pre) in omega arith
+
+enum-known-l-5 : tie.Need-enum-known-l-5
+enum-known-l-5 c = search needs
+
+one-set-requires-3 : tie.Need-one-set-requires-3
+one-set-requires-3 c κs = let v = rw (c .before .l5 .given .1) at (c .before .before .before .pre) in omega arith
+
+enum-known-l-6 : tie.Need-enum-known-l-6
+enum-known-l-6 c = search needs
+
+both-set-requires-3 : tie.Need-both-set-requires-3
+both-set-requires-3 c κs = let v = rw (c .before .l6 .given .1) at (c .before .before .before .pre) in omega arith
+
+enum-told : tie.Need-enum-told
+enum-told c = search needs
+
+returns : tie.Need-returns
+unfolding allIn
+returns c = rw (c .before .before .l .given .1) (c .one-set .ensures ∙ sym (and-yes _))
+
+returns-2 : tie.Need-returns-2
+unfolding allIn
+returns-2 c = rw (c .before .before .l2 .given .1, and-yes) (c .both-set .ensures)
+
+returns-3 : tie.Need-returns-3
+unfolding allIn
+returns-3 c = rw (c .before .before .l3 .given .1) (c .one-set2 .ensures ∙ sym (and-yes _))
+
+returns-4 : tie.Need-returns-4
+unfolding allIn
+returns-4 c = rw (c .before .before .l4 .given .1, and-yes) (c .both-set2 .ensures)
+
+returns-5 : tie.Need-returns-5
+unfolding allIn
+returns-5 c = rw (c .before .before .l5 .given .1) (c .one-set3 .ensures ∙ sym (and-yes _))
+
+returns-6 : tie.Need-returns-6
+unfolding allIn
+returns-6 c = rw (c .before .before .l6 .given .1, and-yes) (c .both-set3 .ensures)
+
+returns-7 : tie.Need-returns-7
+unfolding allIn
+returns-7 c = rw (c .enum-told .given .1)
+
+pub left-reached-spec : {M : Type 1} → statement M
+left-reached-spec =
+    tie.close
+    (tie.spec
+    enum-known-l
+    one-set-requires
+    enum-known-l-2
+    both-set-requires
+    enum-known-l-3
+    one-set-requires-2
+    enum-known-l-4
+    both-set-requires-2
+    enum-known-l-5
+    one-set-requires-3
+    enum-known-l-6
+    both-set-requires-3
+    enum-told
+    returns
+    returns-2
+    returns-3
+    returns-4
+    returns-5
+    returns-6
+    returns-7)

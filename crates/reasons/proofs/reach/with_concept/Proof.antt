@@ -1,0 +1,19 @@
+use native.Mathlib.Nat.{mod-eq-of-lt}
+use Rattle.bits.specs.Bit.{withBit}
+use mathlib.Core.Path.{ap, _∙_}
+use Prim.Native.Nat.{ℕ}
+-- `reasons::reach::with_concept` meets its contract: below 64 a bit is the one at its number.
+use borrow.Author.Needs.{needs}
+use Rattle.reasons.proofs.reach.with_concept.Statement.{statement}
+use Rattle.reasons.proofs.reach.with_concept.Tie as tie
+
+with-bit-requires : tie.Need-with-bit-requires
+with-bit-requires c κs = search needs
+
+returns : tie.Need-returns
+returns c =
+    let a = c .before .args in
+    ap (λ (w : ℕ). record { concepts = w; roles = a .names .roles }) (c .with-bit .ensures ∙ ap (withBit (a .names .concepts)) (mod-eq-of-lt (c .before .pre)))
+
+pub with-concept-spec : {M : Type 1} → statement M
+with-concept-spec = tie.close (tie.spec with-bit-requires returns)

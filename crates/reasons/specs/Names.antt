@@ -1,0 +1,39 @@
+-- The names of a question as the code keeps them, a bit for each, and what the functions that reach them promise each other. No public promise cites this page.
+use mathlib.Core.Path.{_≡_}
+use mathlib.Core.Bool.{Bool, true, cond}
+use mathlib.Core.List.{List, [], _∷_}
+use Prim.Native.Nat.{ℕ, _<_}
+use lib.ListN.{length}
+use Rattle.bits.specs.Bit.{has, withBit}
+use Rattle.pack.specs.declared.line.Line.{Line}
+use Rattle.pack.specs.World.{lineAt}
+use Rattle.reasons.specs.declared.reach.Names.{Names}
+use Rattle.reasons.specs.Reach.{Name, concept, role, leftNames, rightNames, allIn, Reaches}
+
+-- a name is among the names when its bit is set
+abbrev pub nameIn : Names → Name → Bool
+nameIn ns (concept x) = has (ns .concepts) x
+nameIn ns (role r) = has (ns .roles) r
+
+-- one name more, and those of a list
+abbrev pub withName : Names → Name → Names
+withName ns (concept x) = record { concepts = withBit (ns .concepts) x; roles = ns .roles }
+withName ns (role r) = record { concepts = ns .concepts; roles = withBit (ns .roles) r }
+
+abbrev pub withNames : Names → List Name → Names
+withNames ns [] = ns
+withNames ns (x ∷ xs) = withNames (withName ns x) xs
+
+-- with all left-side names of a line, its right-side names
+abbrev pub withLine : Names → Line → Names
+withLine ns l = cond (allIn (nameIn ns) (leftNames l)) (withNames ns (rightNames l)) ns
+
+abbrev pub Inside : (Name → Bool) → (Name → Bool) → Type 0
+Inside R R′ = (x : Name) → R x ≡ true → R′ x ≡ true
+
+-- what the marked lines before place k make of R: no name is lost, none comes that a set which `Reaches` can lack,
+-- and where all left-side names of such a line were in R, its right-side names came
+pub record Passed (ls : List Line) (S : ℕ → Bool) (k : ℕ) (R R′ : Name → Bool) : Type 0 where
+  pub keeps : Inside R R′
+  pub least : (a : ℕ) (Q : Name → Bool) → Reaches ls S a Q → Inside R Q → Inside R′ Q
+  pub goes : (i : ℕ) → i < k → i < length ls → S i ≡ true → allIn R (leftNames (lineAt ls i)) ≡ true → allIn R′ (rightNames (lineAt ls i)) ≡ true
