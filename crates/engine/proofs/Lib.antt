@@ -1,4 +1,4 @@
--- The laws of the engine: the goal's step, runs that may stop, the verdict, bytes, the writer; that our sheets are accepted; C1 to C12.
+-- The laws of the engine: the goal's step, runs that may stop, the verdict, bytes, the writer; that our sheets are accepted.
 pub mod GoalLaws
 pub mod RunLaws
 pub mod VerdictLaws
@@ -6,4 +6,3 @@ pub mod CompleteLaws
 pub mod BytesLaws
 pub mod WriteLaws
 pub mod OursLaws
-pub mod Cases

@@ -1,11 +1,13 @@
--- The laws: of picking over any property of place sets, of the printed set, of reach and the module, that nothing is lost by it; C1 to C10.
+-- The laws: of picking over any property of place sets, of the printed set, of reach and the module, that nothing is lost by it; of the calls; C1 to C12.
 pub mod PickLaws
 pub mod PrintedLaws
 pub mod ReachLaws
 pub mod InsideLaws
-pub mod ReasonCases
+pub mod Cases
 pub mod OutLaws
 pub mod CutLaws
 pub mod HalveLaws
 pub mod AskLaws
 pub mod NameLaws
+pub mod SetLaws
+pub mod SetRight

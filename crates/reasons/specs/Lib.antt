@@ -4,3 +4,4 @@ pub mod Reach
 pub mod OutMarks
 pub mod Inner
 pub mod Names
+pub mod Set

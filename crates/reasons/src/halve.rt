@@ -1,5 +1,6 @@
 // The printed set by halving: between two kept records the next one is found by halving what may go.
 ghost use mathlib.Core.Path.{_≡_};
+ghost use mathlib.Core.Bool.{true};
 ghost use Prim.Native.Nat.{ℕ, _+_, _-_, _<_, _≤_};
 ghost use lib.ListN.{length};
 ghost use Rattle.bits.specs.Sets.{lowest};
@@ -118,7 +119,8 @@ pub fn pick<'a>(
     b: usize,
 ) -> [u64; 16]
     requires { ⌜ Taken n m (now pack) given a b × (a ≡ b → ⊥) × (given ≡ marksOf (marked given)) × Follows (linesOf (now pack)) (counted (now pack) given) a b ⌝ }
-    ensures { λ r. ⌜ (r ≡ marksOf (marked r)) × IsPicked (length (linesOf (now (pack .entry)))) (λ P. Follows (linesOf (now (pack .entry))) P a b) (counted (now (pack .entry)) given) (counted (now (pack .entry)) r) ⌝ }
+    ensures words { λ r. ⌜ (r ≡ marksOf (marked r)) × ((i : ℕ) → marked r i ≡ true → marked given i ≡ true) ⌝ }
+    ensures picked { λ r. ⌜ IsPicked (length (linesOf (now (pack .entry)))) (λ P. Follows (linesOf (now (pack .entry))) P a b) (counted (now (pack .entry)) given) (counted (now (pack .entry)) r) ⌝ }
 {
     let mut left = given;
     let mut i = next_marked(&left, 0);

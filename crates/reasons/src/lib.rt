@@ -3,3 +3,4 @@ pub mod cut;
 pub mod halve;
 pub mod out;
 pub mod reach;
+pub mod set;

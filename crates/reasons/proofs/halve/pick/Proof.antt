@@ -70,7 +70,7 @@ loop-again c =
 returns : tie.Need-returns Inv-loop μ-loop
 returns c =
     let l = c .before .loop in
-    (l .inv .words, halved-end (length (linesOf (c .before .before .before .before .before .args .pack .now))) (λ P. Follows (linesOf (c .before .before .before .before .before .args .pack .now)) P (c .before .before .before .before .before .args .a) (c .before .before .before .before .before .args .b)) (follows-more (linesOf (c .before .before .before .before .before .args .pack .now)) (c .before .before .before .before .before .args .a) (c .before .before .before .before .before .args .b)) _ _ _ (l .inv .halved) (omega (arith, lines-most _ _ _ _ _ _ (c .before .before .before .before .before .pre .0))))
+    ((l .inv .words, l .inv .halved .fewer), halved-end (length (linesOf (c .before .before .before .before .before .args .pack .now))) (λ P. Follows (linesOf (c .before .before .before .before .before .args .pack .now)) P (c .before .before .before .before .before .args .a) (c .before .before .before .before .before .args .b)) (follows-more (linesOf (c .before .before .before .before .before .args .pack .now)) (c .before .before .before .before .before .args .a) (c .before .before .before .before .before .args .b)) _ _ _ (l .inv .halved) (omega (arith, lines-most _ _ _ _ _ _ (c .before .before .before .before .before .pre .0))))
 
 pub pick-spec : {M : Type 1} → statement M
 pick-spec =

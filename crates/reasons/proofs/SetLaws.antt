@@ -1,0 +1,122 @@
+-- Laws of the printed set's words: what is picked from the module is the printed set, and nothing is where A is B.
+use mathlib.Core.Path.{_≡_, refl, sym, ap, _∙_}
+use mathlib.Core.Bool.{Bool, true, false}
+use mathlib.Core.List.{List}
+use Prim.Native.Nat.{ℕ, zero, suc, _+_, _*_, _≤_, _<_}
+use native.Mathlib.Decide.{decLt}
+use native.Mathlib.Omega.{arith}
+use lib.ListN.{length, getD}
+use Rattle.bits.proofs.Truth.{and-true, never}
+use Rattle.pack.specs.Marks.{marked, counted}
+use Rattle.pack.specs.Question.{Taken}
+use Rattle.pack.specs.Record.{linesOf}
+use Rattle.pack.specs.World.{Follows, lineAt}
+use Rattle.pack.proofs.RecordLaws.{lines-length}
+use Rattle.passes.specs.Passes.{verdict}
+use Rattle.passes.proofs.RowLaws.{row-lt}
+use Rattle.engine.proofs.VerdictLaws.{question, valid}
+use Rattle.reasons.specs.Printed.{IsPicked, IsPrinted, without, spared, picked, printed}
+use Rattle.reasons.specs.Reach.{IsModule, allIn, leftNames, reached, moduleOf, moduleIn}
+use Rattle.reasons.specs.OutMarks.{marksOf}
+use Rattle.reasons.specs.Inner.{cutOut}
+use Rattle.reasons.specs.Set.{setWords}
+use Rattle.reasons.proofs.OutLaws.{marks-length, marks-word, marked-of, marked-past, marks-same}
+use Rattle.reasons.proofs.PickLaws.{without-true}
+use Rattle.reasons.proofs.PrintedLaws.{printed-is, printed-one}
+use Rattle.reasons.proofs.ReachLaws.{module-is}
+use Rattle.reasons.proofs.InsideLaws.{module-follows, inside-printed}
+use Rattle.reasons.proofs.HalveLaws.{cut-gone, cut-fewer, cut-marked}
+use Rattle.reasons.proofs.AskLaws.{taken-sixteen, lines-most, fewer-taken}
+
+-- words by the places that they mark
+pub marks-ext : (P Q : ℕ → Bool) → ((i : ℕ) → i < 1024 → P i ≡ Q i) → marksOf P ≡ marksOf Q
+marks-ext P Q h =
+    marks-same Q (marksOf P) (marks-length P) (λ j l. rw (marks-word P j l) (row-lt 64 (λ i. P (j * 64 + i)))) (λ i l. marked-of P i l ∙ h i l)
+
+pub marks-again : (P : ℕ → Bool) (ws : List ℕ) → ws ≡ marksOf P → ws ≡ marksOf (marked ws)
+marks-again P ws e = e ∙ marks-ext P (marked ws) (λ i l. sym (marked-of P i l) ∙ sym (ap (λ (v : List ℕ). marked v i) e))
+
+-- deletion only takes away
+module _ (D : (ℕ → Bool) → Bool) where
+  spared-fewer : (c i : ℕ) (S : ℕ → Bool) (j : ℕ) → spared D c i S j ≡ true → S j ≡ true
+  unfolding spared
+  spared-fewer zero i S j h = h
+  spared-fewer (suc c) i S j h = go (D (without S i)) h (spared-fewer c (i + 1) (without S i) j) (spared-fewer c (i + 1) S j)
+    where
+      go : (t : Bool) → (let left : ℕ → Bool = elim t [ true ↦ spared D c (i + 1) (without S i) | false ↦ spared D c (i + 1) S ] in left j ≡ true) → (spared D c (i + 1) (without S i) j ≡ true → without S i j ≡ true) → (spared D c (i + 1) S j ≡ true → S j ≡ true) → S j ≡ true
+      go true g spare keep = without-true S i j (spare g) .0
+      go false g spare keep = keep g
+
+module _ (n m : ℕ) (s ws : List ℕ) (a b : ℕ) (t : Taken n m s ws a b) (f : Follows (linesOf s) (counted s ws) a b) where
+  printed-fewer : (i : ℕ) → printed (linesOf s) (counted s ws) n m a b i ≡ true → counted s ws i ≡ true
+  unfolding printed picked
+  printed-fewer = spared-fewer (λ P. verdict (linesOf s) P n m a b) (length (linesOf s)) 0 (counted s ws)
+
+  -- past the pack's end nothing is marked
+  past-none : (P : ℕ → Bool) → ((i : ℕ) → P i ≡ true → counted s ws i ≡ true) → (i : ℕ) → length (linesOf s) ≤ i → P i ≡ false
+  past-none P fewer i l = go (P i) refl
+    where
+      q : marked ws i ≡ false
+      q = let r = question n m s ws a b (t .1) in r .marks .above i (omega (arith, r .pack .count, lines-length s))
+
+      go : (v : Bool) → P i ≡ v → v ≡ false
+      go true e = never (fewer i e) q
+      go false e = refl
+
+  -- WORDS THAT MARK A PRINTED SET are the words of the printed set
+  pub set-words : (r : List ℕ) → r ≡ marksOf (marked r) → ((i : ℕ) → marked r i ≡ true → counted s ws i ≡ true) → IsPrinted (linesOf s) (counted s ws) a b (marked r) → r ≡ setWords n m s ws a b
+  set-words r e fewer p = e ∙ marks-ext (marked r) (printed (linesOf s) (counted s ws) n m a b) (λ i _. go i (decLt i (length (linesOf s))))
+    where
+      go : (i : ℕ) → Dec (i < length (linesOf s)) → marked r i ≡ printed (linesOf s) (counted s ws) n m a b i
+      go i (yes l) =
+          printed-one (linesOf s) (counted s ws) a b (marked r) p (printed (linesOf s) (counted s ws) n m a b)
+          (printed-is (linesOf s) n m a b (valid n m s ws a b (t .1)) (question n m s ws a b (t .1) .pack .n-some) (question n m s ws a b (t .1) .goalA) (counted s ws) f) i l
+      go i (no l) = past-none (marked r) fewer i (omega arith) ∙ sym (past-none (printed (linesOf s) (counted s ws) n m a b) printed-fewer i (omega arith))
+
+  -- A EQUAL TO B: everything goes
+  pub same-words : a ≡ b → (r : List ℕ) → r ≡ marksOf (cutOut (marked ws) 0 1024) → r ≡ setWords n m s ws a b
+  same-words same r e =
+      set-words r (marks-again (cutOut (marked ws) 0 1024) r e) (λ i h. cut-fewer (marked ws) 0 1024 i (sym (is i) ∙ h)) (record {
+        within = λ i l h. cut-fewer (marked ws) 0 1024 i (sym (is i) ∙ h);
+        holds = λ w k o x l h. rw (← same) h;
+        lacks = λ Q w g i d. is i ∙ cut-gone (marked ws) 0 1024 i (omega arith) (omega (arith, d .inside, lines-most n m s ws a b t));
+      })
+    where
+      is : (i : ℕ) → marked r i ≡ cutOut (marked ws) 0 1024 i
+      is i = ap (λ (v : List ℕ). marked v i) e ∙ ap (λ (p : ℕ → Bool). p i) (cut-marked ws 0 1024 (taken-sixteen n m s ws a b t))
+
+  module-fewer : (i : ℕ) → moduleOf (linesOf s) (counted s ws) n m a i ≡ true → counted s ws i ≡ true
+  unfolding moduleOf moduleIn
+  module-fewer i h = and-true (counted s ws i) (allIn (reached (linesOf s) (counted s ws) n m a) (leftNames (lineAt (linesOf s) i))) h .0
+
+  -- THE MODULE FIRST: it is taken, the goal follows from it, and what is picked from it is the printed set
+  module _ (inside : List ℕ) (e : inside ≡ marksOf (moduleOf (linesOf s) (counted s ws) n m a)) where
+    inside-is : (i : ℕ) → i < 1024 → marked inside i ≡ moduleOf (linesOf s) (counted s ws) n m a i
+    inside-is i l = ap (λ (v : List ℕ). marked v i) e ∙ marked-of (moduleOf (linesOf s) (counted s ws) n m a) i l
+
+    inside-fewer : (i : ℕ) → marked inside i ≡ true → counted s ws i ≡ true
+    inside-fewer i h = go (decLt i 1024)
+      where
+        go : Dec (i < 1024) → counted s ws i ≡ true
+        go (yes l) = module-fewer i (sym (inside-is i l) ∙ h)
+        go (no l) = never h (ap (λ (v : List ℕ). marked v i) e ∙ marked-past (moduleOf (linesOf s) (counted s ws) n m a) i (omega arith))
+
+    inside-module : IsModule (linesOf s) (counted s ws) a (marked inside)
+    inside-module =
+        let im = module-is (linesOf s) (counted s ws) n m a (valid n m s ws a b (t .1)) (question n m s ws a b (t .1) .goalA) in
+        record { names = im .names; reached = im .reached; places = λ i l. inside-is i (omega (arith, lines-most n m s ws a b t)) ∙ im .places i l }
+
+    pub inside-taken : Taken n m s inside a b
+    inside-taken = fewer-taken n m s ws a b t inside (ap length e ∙ marks-length (moduleOf (linesOf s) (counted s ws) n m a)) inside-fewer
+
+    pub inside-words : inside ≡ marksOf (marked inside)
+    inside-words = marks-again (moduleOf (linesOf s) (counted s ws) n m a) inside e
+
+    pub inside-follows : Follows (linesOf s) (marked inside) a b
+    inside-follows =
+        module-follows (linesOf s) (counted s ws) n m a b (valid n m s ws a b (t .1)) (question n m s ws a b (t .1) .pack .n-some) (question n m s ws a b (t .1) .goalA) (marked inside) inside-module .0 f
+
+    pub inside-set : (r : List ℕ) → (r ≡ marksOf (marked r)) × ((i : ℕ) → marked r i ≡ true → marked inside i ≡ true) → IsPicked (length (linesOf s)) (λ P. Follows (linesOf s) P a b) (marked inside) (marked r) → r ≡ setWords n m s ws a b
+    inside-set r w p =
+        set-words r (w .0) (λ i h. inside-fewer i (w .1 i h))
+        (inside-printed (linesOf s) (counted s ws) n m a b (valid n m s ws a b (t .1)) (question n m s ws a b (t .1) .pack .n-some) (question n m s ws a b (t .1) .goalA) (marked inside) inside-module (marked r) p)
