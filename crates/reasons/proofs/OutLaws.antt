@@ -7,11 +7,13 @@ use native.Mathlib.Omega.{arith}
 use lib.Dec.{eqb}
 use lib.ListN.{length, getD}
 use lib.Seq.{ext-getD}
-use borrow.Author.Tests.{eqb-true}
+use borrow.Author.Tests.{eqb-true, ne-eqb}
 use Rattle.bits.specs.Bit.{has}
 use Rattle.bits.proofs.BitLaws.{has-ext}
-use Rattle.pack.specs.declared.check.Checked.the-variants.{Count}
-use Rattle.pack.specs.Marks.{marked}
+use Rattle.pack.specs.declared.check.Checked.the-variants.{Refused, Count}
+use Rattle.pack.specs.declared.check.Refusal.the-variants.{Marks}
+use Rattle.pack.specs.Marks.{marked, marksFit}
+use Rattle.pack.specs.Pack.{checkPack}
 use Rattle.pack.specs.Question.{checkQuestion}
 use Rattle.pack.proofs.Parts.{listed-length, listed-at}
 use Rattle.pack.proofs.MarkLaws.{at-word, unmarked-past}
@@ -51,6 +53,11 @@ module _ (P : ℕ → Bool) where
           has-ext 64 (getD ws j 0) (row 64 (λ i. P (j * 64 + i))) (small j h) (row-lt 64 (λ i. P (j * 64 + i)))
           (λ i l. sym (at-word ws (j * 64 + i) j i (omega arith) (omega arith)) ∙ same (j * 64 + i) (omega arith) ∙ sym (row-has 64 (λ k. P (j * 64 + k)) i l))
 
+-- sets of the same places have the same words
+pub marks-alike : (P Q : ℕ → Bool) → ((i : ℕ) → i < 1024 → P i ≡ Q i) → marksOf P ≡ marksOf Q
+marks-alike P Q h =
+    marks-same Q (marksOf P) (marks-length P) (λ j l. rw (marks-word P j l) (row-lt 64 (λ i. P (j * 64 + i)))) (λ i l. marked-of P i l ∙ h i l)
+
 -- WHERE A QUESTION IS TAKEN there are 16 words out, and the marks in are judged as they are
 module _ (n m : ℕ) (s ws : List ℕ) (a b : ℕ) (out : List ℕ) where
   pub both-taken : {k : ℕ} → checkQuestion n m s (marksBoth ws out) a b ≡ Count k → (length out ≡ 16) × (marksBoth ws out ≡ ws)
@@ -63,3 +70,8 @@ module _ (n m : ℕ) (s ws : List ℕ) (a b : ℕ) (out : List ℕ) where
   -- so it is the question of the marks in alone
   pub both-asked : {k : ℕ} → checkQuestion n m s (marksBoth ws out) a b ≡ Count k → checkQuestion n m s ws a b ≡ Count k
   both-asked {k} h = rw (both-taken h .1) at h
+
+  -- OTHER THAN 16 WORDS OUT are refused as marks, where the pack is taken
+  pub out-refused : {k : ℕ} → checkPack n m s ≡ Count k → (length out ≡ 16 → ⊥) → checkQuestion n m s (marksBoth ws out) a b ≡ Refused Marks
+  unfolding checkQuestion marksFit
+  out-refused h d = rw (h, ne-eqb (length out) 16 d)

@@ -5,3 +5,4 @@ pub mod OutMarks
 pub mod Inner
 pub mod Names
 pub mod Set
+pub mod Module

@@ -1,6 +1,7 @@
 // Why a goal follows: the module and the printed set.
 pub mod cut;
 pub mod halve;
+pub mod module;
 pub mod out;
 pub mod reach;
 pub mod set;

@@ -1,0 +1,145 @@
+-- Laws of the module call: the words that it finds, that they mark exactly the module, and that no second answer keeps its promise.
+use mathlib.Core.Path.{_≡_, refl, sym, _∙_}
+use mathlib.Core.Bool.{Bool, true, false}
+use mathlib.Core.List.{List}
+use Prim.Native.Nat.{ℕ, _≤_, _<_}
+use native.Mathlib.Decide.{decLt}
+use native.Mathlib.Omega.{arith}
+use lib.ListN.{length}
+use Rattle.bits.proofs.Promises.{no-second}
+use Rattle.pack.specs.declared.check.Checked.{Checked}
+use Rattle.pack.specs.declared.check.Checked.the-variants.{Refused, Count}
+use Rattle.pack.specs.declared.check.Refusal.{Refusal}
+use Rattle.pack.specs.declared.line.Line.{Line}
+use Rattle.pack.specs.declared.line.Line.the-variants.{Under, BothUnder, UnderSome, SomeUnder, RoleUnder, ChainUnder, NoLine}
+use Rattle.pack.specs.Marks.{marked, counted, markCount}
+use Rattle.pack.specs.Record.{linesOf, ValidLine, Valid}
+use Rattle.pack.specs.World.{lineAt}
+use Rattle.pack.proofs.QuestionLaws.{Asked, asked}
+use Rattle.pack.proofs.RecordLaws.{lines-length}
+use Rattle.engine.proofs.VerdictLaws.{valid}
+use Rattle.reasons.specs.Reach.{Name, leftNames, allIn, IsReached, moduleIn, IsModule, reached, moduleOf}
+use Rattle.reasons.specs.Names.{Taken}
+use Rattle.reasons.specs.OutMarks.{marksOf, checkReason}
+use Rattle.reasons.specs.Module.{moduleMarks, marksAnswer, askModule, writtenModule}
+use Rattle.reasons.proofs.OutLaws.{marks-length, marked-of, marked-past, marks-alike, both-asked}
+use Rattle.reasons.proofs.ReachLaws.{module-is, module-one}
+
+module _ (ls : List Line) (S : ℕ → Bool) (R : Name → Bool) where
+  -- a place that is marked is in the module where its left-side names all are in R; no other place is
+  pub inside-marked : (i : ℕ) → S i ≡ true → moduleIn ls S R i ≡ allIn R (leftNames (lineAt ls i))
+  unfolding moduleIn
+  inside-marked i h = rw h
+
+  pub outside-unmarked : (i : ℕ) → S i ≡ false → moduleIn ls S R i ≡ false
+  unfolding moduleIn
+  outside-unmarked i h = rw h
+
+-- a line within the sizes is within the largest ones
+line-most : (n m : ℕ) → n ≤ 64 → m ≤ 8 → (l : Line) → ValidLine n m l → ValidLine 64 8 l
+line-most n m h g (Under a b) v = (omega arith, omega arith)
+line-most n m h g (BothUnder a₁ a₂ b) v = (omega arith, omega arith, omega arith)
+line-most n m h g (UnderSome a r b) v = (omega arith, omega arith, omega arith)
+line-most n m h g (SomeUnder r a b) v = (omega arith, omega arith, omega arith)
+line-most n m h g (RoleUnder r s) v = (omega arith, omega arith)
+line-most n m h g (ChainUnder r s t) v = (omega arith, omega arith, omega arith)
+line-most n m h g NoLine v = v
+
+-- of a question about a that is taken
+module _ (n m : ℕ) (s ws : List ℕ) (a : ℕ) (taken : Taken n m s ws a) where
+  pub question : Asked n m s ws a (taken .0) (taken .1)
+  question = asked n m s ws a (taken .0) (taken .2)
+
+  lines-right : Valid n m (linesOf s)
+  lines-right = valid n m s ws a (taken .0) (taken .2)
+
+  pub lines-most : Valid 64 8 (linesOf s)
+  lines-most i h = line-most n m (question .pack .n-most) (question .pack .m-most) (lineAt (linesOf s) i) (lines-right i h)
+
+  -- no place past the records counts
+  pub none-past : (i : ℕ) → length (linesOf s) ≤ i → counted s ws i ≡ false
+  none-past i h = question .marks .above i (omega (arith, lines-length s, question .pack .count))
+
+  -- the module has no place past the records
+  module-past : (i : ℕ) → length (linesOf s) ≤ i → moduleOf (linesOf s) (counted s ws) n m a i ≡ false
+  unfolding moduleOf
+  module-past i h = outside-unmarked (linesOf s) (counted s ws) (reached (linesOf s) (counted s ws) n m a) i (none-past i h)
+
+  -- THE WORDS FOUND WITH THE REACHED NAMES are those of the module, however the names were found
+  pub names-module : (R : Name → Bool) → IsReached (linesOf s) (counted s ws) a R → marksOf (moduleIn (linesOf s) (counted s ws) R) ≡ moduleMarks n m s ws a
+  names-module R r = marks-alike (moduleIn ls S R) (moduleOf ls S n m a) (λ i _. go i (decLt i (length ls)))
+    where
+      ls : List Line
+      ls = linesOf s
+
+      S : ℕ → Bool
+      S = counted s ws
+
+      go : (i : ℕ) → Dec (i < length ls) → moduleIn ls S R i ≡ moduleOf ls S n m a i
+      go i (yes h) = module-one ls S a (moduleIn ls S R) (moduleOf ls S n m a) (record { names = R; reached = r; places = λ j l. refl }) (module-is ls S n m a lines-right (question .goalA)) i h
+      go i (no h) = outside-unmarked ls S R i (none-past i (omega arith)) ∙ sym (module-past i (omega arith))
+
+  -- THEY MARK EXACTLY THE MODULE
+  pub marks-module : IsModule (linesOf s) (counted s ws) a (marked (moduleMarks n m s ws a))
+  marks-module =
+      let im = module-is (linesOf s) (counted s ws) n m a lines-right (question .goalA) in
+      record {
+        names = im .names;
+        reached = im .reached;
+        places = λ i l. marked-of (moduleOf (linesOf s) (counted s ws) n m a) i (omega (arith, lines-length s, question .pack .size)) ∙ im .places i l;
+      }
+
+  pub marks-past : (i : ℕ) → length (linesOf s) ≤ i → marked (moduleMarks n m s ws a) i ≡ false
+  marks-past i h = go (decLt i 1024)
+    where
+      go : Dec (i < 1024) → marked (moduleMarks n m s ws a) i ≡ false
+      go (yes l) = marked-of (moduleOf (linesOf s) (counted s ws) n m a) i l ∙ module-past i h
+      go (no l) = marked-past (moduleOf (linesOf s) (counted s ws) n m a) i (omega arith)
+
+-- the 16 words mark exactly the module for a, nothing past the records, and k places
+pub record MarksModule (s ws : List ℕ) (a k : ℕ) (out : List ℕ) : Type 0 where
+  pub sixteen : length out ≡ 16
+  pub places : IsModule (linesOf s) (counted s ws) a (marked out)
+  pub past : (i : ℕ) → length (linesOf s) ≤ i → marked out i ≡ false
+  pub count : k ≡ markCount out
+
+-- the answer and the marks out
+module _ (n m : ℕ) (s ws : List ℕ) (a : ℕ) (out : List ℕ) where
+  -- WHERE THE QUESTION IS TAKEN the module's words are written and counted
+  pub module-taken : {k : ℕ} → checkReason n m s ws a a out ≡ Count k
+      → (askModule n m s ws a out ≡ Count (markCount (moduleMarks n m s ws a))) × (writtenModule n m s ws a out ≡ moduleMarks n m s ws a)
+  unfolding askModule writtenModule
+  module-taken h = (rw h, rw h)
+
+  -- A REFUSAL is that of the question, and leaves the marks out as they were
+  pub module-refused : {why : Refusal} → checkReason n m s ws a a out ≡ Refused why → (askModule n m s ws a out ≡ Refused why) × (writtenModule n m s ws a out ≡ out)
+  unfolding askModule writtenModule
+  module-refused h = (rw h, rw h)
+
+  -- a count is given only where the question is taken
+  module-counted : {k : ℕ} → askModule n m s ws a out ≡ Count k → (j : ℕ) × (checkReason n m s ws a a out ≡ Count j)
+  unfolding askModule
+  module-counted {k} e = go (checkReason n m s ws a a out) refl e
+    where
+      go : (r : Checked) → checkReason n m s ws a a out ≡ r → marksAnswer r (moduleMarks n m s ws a) ≡ Count k → (j : ℕ) × (checkReason n m s ws a a out ≡ Count j)
+      go (Refused why) h g = let z : _≡_ {A = ℕ} 0 1 = cc in absurd (omega arith)
+      go (Count j) h g = (j, h)
+
+  -- THE MODULE CALL IS RIGHT: where it counts, the words out mark exactly the module, and so many places
+  pub module-right : {k : ℕ} → askModule n m s ws a out ≡ Count k → MarksModule s ws a k (writtenModule n m s ws a out)
+  module-right {k} e =
+      let c = module-counted e in
+      let t = module-taken (c .1) in
+      let taken : Taken n m s ws a = (a, c .0, both-asked n m s ws a a out (c .1)) in
+      let same : k ≡ markCount (moduleMarks n m s ws a) = cc in
+      rw (t .1)
+      (record {
+        sixteen = marks-length (moduleOf (linesOf s) (counted s ws) n m a);
+        places = marks-module n m s ws a taken;
+        past = marks-past n m s ws a taken;
+        count = same;
+      })
+
+  -- NO SECOND RESULT AND NO SECOND CONTENT OF THE MARKS OUT keeps the promise
+  pub module-fixed : (out₁ out₂ : List ℕ) (r r′ : Checked) → (r ≡ askModule n m s ws a out) × (out₁ ≡ writtenModule n m s ws a out) → (r′ ≡ askModule n m s ws a out) × (out₂ ≡ writtenModule n m s ws a out) → (r ≡ r′) × (out₁ ≡ out₂)
+  module-fixed out₁ out₂ r r′ p q = (no-second (p .0) (q .0), no-second (p .1) (q .1))

@@ -1,0 +1,50 @@
+use Rattle.reasons.proofs.ModuleLaws.{module-taken, module-refused}
+use Rattle.reasons.proofs.OutLaws.{both-taken, both-asked}
+use mathlib.Core.Path.{sym, _∙_}
+-- `reasons::module::module_for` meets its contract: the question's refusal, or what is written.
+use borrow.Author.Needs.{needs}
+use Rattle.reasons.proofs.module.module_for.Statement.{statement}
+use Rattle.reasons.proofs.module.module_for.Tie as tie
+
+check-reason-requires : tie.Need-check-reason-requires
+check-reason-requires c κs = search needs
+
+enum-known-checked : tie.Need-enum-known-checked
+enum-known-checked c = search needs
+
+enum-told : tie.Need-enum-told
+enum-told c = search needs
+
+put-module-requires : tie.Need-put-module-requires
+put-module-requires c κs =
+    let a = c .before .before .before .before .before .before .before .args in
+    let h = sym (c .before .before .before .check-reason .ensures) ∙ c .before .enum-told .given .1 in
+    ((a .a, _, both-asked _ _ _ _ _ _ (a .out .now) h), both-taken _ _ _ (a .marks .now) _ _ (a .out .now) h .0)
+
+returns : tie.Need-returns
+returns c =
+    let a = c .before .before .before .before .before .before .before .args in
+    let t = module-refused _ _ _ (a .marks .now) (a .a) (a .out .now) (sym (c .before .before .before .check-reason .ensures) ∙ c .before .checked .given .1) in
+    (sym (t .0), sym (t .1))
+
+same-length : tie.Need-same-length
+same-length c = search needs
+
+returns-2 : tie.Need-returns-2
+returns-2 c =
+    let a = c .before .before .before .before .before .before .before .before .before .before .args in
+    let put = c .before .before .put-module .ensures in
+    let t = module-taken _ _ _ (a .marks .now) (a .a) (a .out .now) (sym (c .before .before .before .before .before .before .check-reason .ensures) ∙ c .before .before .before .before .enum-told .given .1) in
+    (put .0 ∙ sym (t .0), put .1 ∙ sym (t .1))
+
+pub module-for-spec : {M : Type 1} → statement M
+module-for-spec =
+    tie.close
+    (tie.spec
+    check-reason-requires
+    enum-known-checked
+    enum-told
+    put-module-requires
+    returns
+    same-length
+    returns-2)
