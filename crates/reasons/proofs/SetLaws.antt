@@ -1,4 +1,4 @@
--- Laws of the printed set's words: what is picked from the module is the printed set, and nothing is where A is B.
+-- Laws of the printed set's words: what is picked from the module is the printed set, and nothing is where A is B; refused, or asked.
 use mathlib.Core.Path.{_≡_, refl, sym, ap, _∙_}
 use mathlib.Core.Bool.{Bool, true, false}
 use mathlib.Core.List.{List}
@@ -17,10 +17,14 @@ use Rattle.passes.proofs.RowLaws.{row-lt}
 use Rattle.engine.proofs.VerdictLaws.{question, valid}
 use Rattle.reasons.specs.Printed.{IsPicked, IsPrinted, without, spared, picked, printed}
 use Rattle.reasons.specs.Reach.{IsModule, allIn, leftNames, reached, moduleOf, moduleIn}
-use Rattle.reasons.specs.OutMarks.{marksOf}
+use Rattle.reasons.specs.OutMarks.{marksOf, marksBoth, checkReason}
 use Rattle.reasons.specs.Inner.{cutOut}
-use Rattle.reasons.specs.Set.{setWords}
-use Rattle.reasons.proofs.OutLaws.{marks-length, marks-word, marked-of, marked-past, marks-same}
+use Rattle.reasons.specs.declared.set.SetAnswer.the-variants as answer
+use Rattle.reasons.specs.Set.{setWords, setAfter, setLeft, askSet, writtenSet}
+use Rattle.engine.specs.Verdict.{askVerdict}
+use Rattle.pack.specs.declared.check.Checked.the-variants as checked
+use Rattle.pack.specs.declared.check.Refusal.{Refusal}
+use Rattle.reasons.proofs.OutLaws.{both-taken, marks-length, marks-word, marked-of, marked-past, marks-same}
 use Rattle.reasons.proofs.PickLaws.{without-true}
 use Rattle.reasons.proofs.PrintedLaws.{printed-is, printed-one}
 use Rattle.reasons.proofs.ReachLaws.{module-is}
@@ -120,3 +124,16 @@ module _ (n m : ℕ) (s ws : List ℕ) (a b : ℕ) (t : Taken n m s ws a b) (f :
     inside-set r w p =
         set-words r (w .0) (λ i h. inside-fewer i (w .1 i h))
         (inside-printed (linesOf s) (counted s ws) n m a b (valid n m s ws a b (t .1)) (question n m s ws a b (t .1) .pack .n-some) (question n m s ws a b (t .1) .goalA) (marked inside) inside-module (marked r) p)
+
+module _ (n m : ℕ) (s ws : List ℕ) (a b : ℕ) (out : List ℕ) where
+  -- 1 TO 5: the out words are as they were
+  pub set-refused : {why : Refusal} → checkReason n m s ws a b out ≡ checked.Refused why → (askSet n m s ws a b out ≡ answer.Refused why) × (writtenSet n m s ws a b out ≡ out)
+  unfolding askSet writtenSet askVerdict
+  set-refused e = (rw e, rw e)
+
+  -- taken: the answer goes by the verdict
+  pub set-asked : {k : ℕ} → checkReason n m s ws a b out ≡ checked.Count k
+      → (askSet n m s ws a b out ≡ setAfter (askVerdict n m s ws a b) (setWords n m s ws a b))
+      × (writtenSet n m s ws a b out ≡ setLeft (setAfter (askVerdict n m s ws a b) (setWords n m s ws a b)) (setWords n m s ws a b) out)
+  unfolding askSet writtenSet
+  set-asked e = let both = both-taken n m s ws a b out e .1 in (rw both, rw both)

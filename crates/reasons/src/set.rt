@@ -1,8 +1,99 @@
+// The printed set: numbers 1 to 7 of document 01's table, else the set in the out words and the number of its records.
+ghost use mathlib.Core.Path.{_≡_};
+ghost use lib.ListN.{length};
+ghost use Rattle.pack.specs.Marks.{counted};
+ghost use Rattle.pack.specs.Question.{Taken};
+ghost use Rattle.pack.specs.Record.{linesOf};
+ghost use Rattle.pack.specs.World.{Follows};
+ghost use Rattle.reasons.specs.Set.{setWords, setAfter, setLeft, askSet, writtenSet};
+ghost use Rattle.engine.specs.Verdict.{askVerdict};
+ghost use Rattle.engine.specs.declared.verdict.VerdictAnswer.the-variants as verdict;
+use crate::cut::cut_marks;
+use crate::halve::pick;
+use crate::module::module_of;
+use crate::out::check_reason;
+use crate::out::put_marks;
+use engine::verdict::VerdictAnswer;
+use engine::verdict::verdict;
+use pack::check::Checked;
 use pack::check::Refusal;
+use pack::marks::count_marked;
+
 // What the printed set's call answers.
 pub enum SetAnswer {
     Refused(Refusal),
     TooLong,
     NotFollows,
     Count(u32),
+}
+
+// The marks of the printed set of a goal that follows: picked from its module. For A equal to B nothing is needed.
+fn set_of<'a>(n: usize, m: usize, pack: &'a [u8], marks: &'a [u64], a: usize, b: usize) -> [u64; 16]
+    requires { ⌜ Taken n m (now pack) (now marks) a b × Follows (linesOf (now pack)) (counted (now pack) (now marks)) a b ⌝ }
+    ensures { λ r. ⌜ r ≡ setWords n m (now (pack .entry)) (now (marks .entry)) a b ⌝ }
+{
+    if a == b {
+        return cut_marks(marks, 0, 1024);
+    }
+    let inside = module_of(n, m, pack, marks, a);
+    pick(n, m, pack, inside, a, b)
+}
+
+// The printed set into the out words, and how many records they mark.
+fn put_set<'a>(
+    n: usize,
+    m: usize,
+    pack: &'a [u8],
+    marks: &'a [u64],
+    a: usize,
+    b: usize,
+    out: &mut [u64],
+) -> SetAnswer
+    requires { ⌜ Taken n m (now pack) (now marks) a b × Follows (linesOf (now pack)) (counted (now pack) (now marks)) a b × (length (now out) ≡ 16) ⌝ }
+    ensures { λ r. ⌜ (r ≡ setAfter verdict.Follows (setWords n m (now (pack .entry)) (now (marks .entry)) a b)) × (now (out .exit) ≡ setWords n m (now (pack .entry)) (now (marks .entry)) a b) ⌝ }
+{
+    let words = set_of(n, m, pack, marks, a, b);
+    put_marks(&words, out);
+    SetAnswer::Count(count_marked(out))
+}
+
+// The set of a question that is taken, where the goal follows.
+fn set_taken<'a>(
+    n: usize,
+    m: usize,
+    pack: &'a [u8],
+    marks: &'a [u64],
+    a: usize,
+    b: usize,
+    out: &mut [u64],
+) -> SetAnswer
+    requires { ⌜ Taken n m (now pack) (now marks) a b × (length (now out) ≡ 16) ⌝ }
+    ensures { λ r. ⌜ (r ≡ setAfter (askVerdict n m (now (pack .entry)) (now (marks .entry)) a b) (setWords n m (now (pack .entry)) (now (marks .entry)) a b)) × (now (out .exit) ≡ setLeft r (setWords n m (now (pack .entry)) (now (marks .entry)) a b) (now (out .entry))) ⌝ }
+{
+    let answer = verdict(n, m, pack, marks, a, b);
+    match answer {
+        VerdictAnswer::Refused(why) => SetAnswer::Refused(why),
+        VerdictAnswer::TooLong => SetAnswer::TooLong,
+        VerdictAnswer::Not => SetAnswer::NotFollows,
+        VerdictAnswer::Follows => put_set(n, m, pack, marks, a, b, out),
+    }
+}
+
+// The printed set, for any input and any lent out words.
+pub fn printed_set<'a>(
+    n: usize,
+    m: usize,
+    pack: &'a [u8],
+    marks: &'a [u64],
+    a: usize,
+    b: usize,
+    out: &mut [u64],
+) -> SetAnswer
+    ensures { λ r. ⌜ (r ≡ askSet n m (now (pack .entry)) (now (marks .entry)) a b (now (out .entry))) × (now (out .exit) ≡ writtenSet n m (now (pack .entry)) (now (marks .entry)) a b (now (out .entry))) ⌝ }
+{
+    let checked = check_reason(n, m, pack, marks, a, b, out.len());
+    match checked {
+        Checked::Refused(why) => SetAnswer::Refused(why),
+        Checked::Count(_) => set_taken(n, m, pack, marks, a, b, out),
+    }
 }

@@ -1,0 +1,50 @@
+use Rattle.reasons.proofs.OutLaws.{both-taken, both-asked}
+use Rattle.reasons.proofs.SetLaws.{set-refused, set-asked}
+use mathlib.Core.Path.{sym, _∙_}
+-- `reasons::set::printed_set` meets its contract: the question's refusal, or what the verdict lets be written.
+use borrow.Author.Needs.{needs}
+use Rattle.reasons.proofs.set.printed_set.Statement.{statement}
+use Rattle.reasons.proofs.set.printed_set.Tie as tie
+
+check-reason-requires : tie.Need-check-reason-requires
+check-reason-requires c κs = search needs
+
+enum-known-checked : tie.Need-enum-known-checked
+enum-known-checked c = search needs
+
+enum-told : tie.Need-enum-told
+enum-told c = search needs
+
+set-taken-requires : tie.Need-set-taken-requires
+set-taken-requires c κs =
+    let a = c .before .before .before .before .before .before .before .args in
+    let h = sym (c .before .before .before .check-reason .ensures) ∙ c .before .enum-told .given .1 in
+    ((_, both-asked _ _ _ _ _ _ (a .out .now) h), both-taken _ _ _ (a .marks .now) _ _ (a .out .now) h .0)
+
+returns : tie.Need-returns
+returns c =
+    let a = c .before .before .before .before .before .before .before .args in
+    let t = set-refused _ _ _ (a .marks .now) (a .a) (a .b) (a .out .now) (sym (c .before .before .before .check-reason .ensures) ∙ c .before .checked .given .1) in
+    (sym (t .0), sym (t .1))
+
+same-length : tie.Need-same-length
+same-length c = search needs
+
+returns-2 : tie.Need-returns-2
+returns-2 c =
+    let a = c .before .before .before .before .before .before .before .before .before .before .args in
+    let put = c .before .before .set-taken .ensures in
+    let t = set-asked _ _ _ (a .marks .now) (a .a) (a .b) (a .out .now) (sym (c .before .before .before .before .before .before .check-reason .ensures) ∙ c .before .before .before .before .enum-told .given .1) in
+    (put .0 ∙ sym (t .0), rw (put .0) at (put .1) ∙ sym (t .1))
+
+pub printed-set-spec : {M : Type 1} → statement M
+printed-set-spec =
+    tie.close
+    (tie.spec
+    check-reason-requires
+    enum-known-checked
+    enum-told
+    set-taken-requires
+    returns
+    same-length
+    returns-2)

@@ -1,0 +1,28 @@
+use Rattle.reasons.proofs.AskLaws.{taken-sixteen}
+use Rattle.reasons.proofs.SetLaws.{same-words, inside-taken, inside-words, inside-follows, inside-set}
+-- `reasons::set::set_of` meets its contract: from the module, or nothing.
+use borrow.Author.Needs.{needs}
+use Rattle.reasons.proofs.set.set_of.Statement.{statement}
+use Rattle.reasons.proofs.set.set_of.Tie as tie
+
+cut-marks-requires : tie.Need-cut-marks-requires
+cut-marks-requires c κs = taken-sixteen _ _ _ _ _ _ (c .before .before .before .pre .0)
+
+returns : tie.Need-returns
+returns c = let pre = c .before .before .before .before .pre in same-words _ _ _ _ _ _ (pre .0) (pre .1) (c .before .if1 .taken) _ (c .cut-marks .ensures)
+
+module-of-requires : tie.Need-module-of-requires
+module-of-requires c κs = search needs
+
+pick-requires : tie.Need-pick-requires
+pick-requires c κs =
+    let pre = c .before .before .before .before .pre in
+    let e = c .module-of .ensures in
+    (inside-taken _ _ _ _ _ _ (pre .0) (pre .1) _ e, c .before .if1 .left, inside-words _ _ _ _ _ _ (pre .0) (pre .1) _ e, inside-follows _ _ _ _ _ _ (pre .0) (pre .1) _ e)
+
+returns-2 : tie.Need-returns-2
+returns-2 c = let pre = c .before .before .before .before .before .pre in inside-set _ _ _ _ _ _ (pre .0) (pre .1) _ (c .before .module-of .ensures) _ (c .pick .ensures .0) (c .pick .ensures .1)
+
+pub set-of-spec : {M : Type 1} → statement M
+set-of-spec =
+    tie.close (tie.spec cut-marks-requires returns module-of-requires pick-requires returns-2)
