@@ -1,0 +1,2 @@
+-- Laws of the input.
+pub mod InputLaws

@@ -1,0 +1,2 @@
+-- What standard input asks.
+pub mod Input

@@ -1,0 +1,51 @@
+// Lines on standard output.
+use pack::check::Refusal;
+use pack::marks::next_marked;
+
+// A word and a number.
+pub fn number_line(word: &[u8], number: u32) {
+    io::write_all(1, word);
+    io::print_decimal(1, number as u64);
+    io::write_all(1, b"\n");
+}
+
+// A refusal by its number.
+pub fn refused_line(number: u32) {
+    number_line(b"refused ", number);
+}
+
+// A refusal of RECORD, with its place.
+fn record_line(place: u32) {
+    io::write_all(1, b"refused 3 ");
+    io::print_decimal(1, place as u64);
+    io::write_all(1, b"\n");
+}
+
+pub fn refusal_line(why: Refusal) {
+    match why {
+        Refusal::Sizes => refused_line(1),
+        Refusal::Pack => refused_line(2),
+        Refusal::Record(place) => record_line(place),
+        Refusal::Marks => refused_line(4),
+        Refusal::Goal => refused_line(5),
+    }
+}
+
+// One place of a list.
+fn place(i: usize) {
+    io::write_all(1, b" ");
+    io::print_decimal(1, i as u64);
+}
+
+// A word, how many places are marked, and which.
+pub fn list_line(word: &[u8], count: u32, marks: &[u64]) {
+    io::write_all(1, word);
+    io::print_decimal(1, count as u64);
+    io::write_all(1, b":");
+    let mut i = next_marked(marks, 0);
+    while i < 1024 {
+        place(i);
+        i = next_marked(marks, i + 1);
+    }
+    io::write_all(1, b"\n");
+}
