@@ -3,7 +3,7 @@ use mathlib.Core.Path.{_≡_, refl, sym, ap, _∙_}
 use mathlib.Core.Bool.{Bool, true, false, cond, not, _&&_, _||_}
 use Prim.Native.Nat.{ℕ, zero, suc, _+_, _-_, _*_, _/_, _%_, _^_, _≤_, _<_, min, max}
 use native.Mathlib.Decide.{ℕ-discrete, decLt}
-use native.Mathlib.Nat.{mod-lt, zero-lt-suc, pow-suc, not-suc-le-zero, div-one, one-mul, zero-add}
+use native.Mathlib.Nat.{mod-lt, mod-eq-of-lt, zero-lt-suc, pow-suc, not-suc-le-zero, div-one, one-mul, zero-add}
 use native.Mathlib.Numerals.{one-add}
 use native.Mathlib.Omega.{arith, by-contra}
 use lib.Arith.{lt-one}
@@ -14,7 +14,7 @@ use lib.Pow.{shr-shr, pow-pos, shl-exact, shr-le}
 use borrow.Author.Tests.{eqb-true, eq-eqb, ne-eqb}
 use Rattle.bits.specs.Bit.{bit, has, withBit}
 use Rattle.bits.specs.Sets.{lowest, countTo}
-use Rattle.bits.proofs.Truth.{true-and, never}
+use Rattle.bits.proofs.Truth.{true-and, or-false, never}
 use Rattle.bits.proofs.SetLaws.{Lowest, lowest-is, count-add, count-same}
 
 -- a bit as a number and as yes or no
@@ -168,6 +168,14 @@ bit-pow k j = go (ℕ-discrete k j)
 pub has-with : (w j i : ℕ) → has (withBit w j) i ≡ (has w i || eqb j i)
 unfolding withBit
 has-with w j i = has-or w (2 ^ j) i ∙ ap (λ (t : Bool). has w i || t) (bit-pow j i)
+
+-- a column with one row more has bit y where that row has bit a
+pub column-bits : (column row a y : ℕ) {r : ℕ} → a < 64 → y < 64 → r ≡ cond (has row (a % 64)) (withBit column (y % 64)) column → (j : ℕ) → has r j ≡ (has column j || (has row a && eqb y j))
+column-bits column row a y ha hy e j = ap (λ (w : ℕ). has w j) e ∙ rw (mod-eq-of-lt ha, mod-eq-of-lt hy) (go (has row a))
+  where
+    go : (t : Bool) → has (cond t (withBit column y) column) j ≡ (has column j || (t && eqb y j))
+    go true = has-with column y j
+    go false = sym (or-false (has column j))
 
 -- the word with bit j alone, as `1 << j` computes it
 pub one-shl : (j : ℕ) → j < 64 → (1 * 2 ^ j) % 2 ^ 64 ≡ 2 ^ j

@@ -1,7 +1,7 @@
 -- No second result satisfies a promise that fixes the result by a definition. Every call of every crate whose promise is
 -- "the result is what the definition gives" rests on this one law.
 use mathlib.Core.Path.{_≡_, sym, _∙_}
-use mathlib.Core.Bool.{Bool, not, _&&_}
+use mathlib.Core.Bool.{Bool, cond, not, _&&_}
 use Prim.Native.Nat.{ℕ, _-_, _%_, _^_, _<_}
 use lib.Dec.{eqb}
 use Rattle.bits.specs.Bit.{has, withBit}
@@ -17,6 +17,9 @@ test-bit-fixed w j r r′ = no-second
 
 pub with-bit-fixed : (w j r r′ : ℕ) → r ≡ withBit w (j % 64) → r′ ≡ withBit w (j % 64) → r ≡ r′
 with-bit-fixed w j r r′ = no-second
+
+pub column-with-fixed : (column row a y r r′ : ℕ) → r ≡ cond (has row (a % 64)) (withBit column (y % 64)) column → r′ ≡ cond (has row (a % 64)) (withBit column (y % 64)) column → r ≡ r′
+column-with-fixed column row a y r r′ = no-second
 
 pub next-bit-fixed : (w j r r′ : ℕ) → r ≡ lowest (has w) j (64 - j) → r′ ≡ lowest (has w) j (64 - j) → r ≡ r′
 next-bit-fixed w j r r′ = no-second

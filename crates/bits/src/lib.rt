@@ -1,6 +1,6 @@
 // Bits of a 64-bit word. Callers go by the laws of proofs/BitLaws.antt and never unfold `has`.
 ghost use mathlib.Core.Path.{_≡_};
-ghost use mathlib.Core.Bool.{not, _&&_};
+ghost use mathlib.Core.Bool.{cond, not, _&&_};
 ghost use Prim.Native.Nat.{ℕ, _-_, _%_};
 ghost use lib.Dec.{eqb};
 ghost use Rattle.bits.specs.Bit.{has, withBit};
@@ -18,6 +18,16 @@ pub fn with_bit(w: u64, j: usize) -> u64
     ensures { λ r. ⌜ r ≡ withBit w (j % 64) ⌝ }
 {
     w | (1 << (j % 64))
+}
+
+// A column of a table of bits, with bit y mod 64 set too where the row of y has bit a mod 64.
+pub fn column_with(column: u64, row: u64, a: usize, y: usize) -> u64
+    ensures { λ r. ⌜ r ≡ cond (has row (a % 64)) (withBit column (y % 64)) column ⌝ }
+{
+    if test_bit(row, a) {
+        return with_bit(column, y);
+    }
+    column
 }
 
 // The lowest set bit of w from bit j on; 64, or j itself past that, where there is none.
