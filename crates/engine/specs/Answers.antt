@@ -1,4 +1,5 @@
--- Document 01's table: the number of each answer of the engine, and the value that comes back with it.
+-- Document 01's table: the number of each answer of the engine, and the value that comes back with a verdict. A sheet answer holds
+-- its own: the bytes needed, the steps or the rows.
 use Prim.Native.Nat.{ℕ}
 use Rattle.pack.specs.Answers.{refusalNumber, refusalPlace}
 use Rattle.engine.specs.declared.verdict.VerdictAnswer.{VerdictAnswer}
@@ -25,11 +26,3 @@ sheetNumber sheet.TooLong = 6
 sheetNumber (sheet.NoRoom k) = 8
 sheetNumber (sheet.Follows k) = 0
 sheetNumber (sheet.Not k) = 0
-
--- the bytes needed; the steps or the rows
-abbrev pub sheetValue : SheetAnswer → ℕ
-sheetValue (sheet.Refused why) = refusalPlace why
-sheetValue sheet.TooLong = 0
-sheetValue (sheet.NoRoom k) = k
-sheetValue (sheet.Follows k) = k
-sheetValue (sheet.Not k) = k
