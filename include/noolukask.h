@@ -84,6 +84,17 @@ uint64_t noolukask_write_sheet(uint64_t n, uint64_t m,
                                uint64_t a, uint64_t b,
                                uint8_t *sheet, size_t sheet_len);
 
+/* The module for concept a: the marked records that any reason for "a under .." can use.
+ * Numbers 1 to 5, MARKS also for out that is not 128 bytes; else all 128 bytes of out
+ * are set to the marks of the module, as marks has them, and the value is the number of
+ * records that they mark. What out held before is not judged. Where a number comes
+ * back, no byte of out was changed. */
+uint64_t noolukask_module(uint64_t n, uint64_t m,
+                          const uint8_t *pack, size_t pack_len,
+                          const uint8_t *marks, size_t marks_len,
+                          uint64_t a,
+                          uint8_t *out, size_t out_len);
+
 /* ---- Library sheets: the two checks of a sheet ----------------------------------
  * Both return 0 when the sheet is accepted, else the table's number plus 16 times the
  * place, step or row: number = back % 16, place = back / 16 (0 where there is none).

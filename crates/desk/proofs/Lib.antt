@@ -1,2 +1,3 @@
--- That the promises fix their results.
+-- That the promises fix their results; marks out for C.
 pub mod Promises
+pub mod MarksLaws

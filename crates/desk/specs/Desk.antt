@@ -1,6 +1,7 @@
 -- What the calls for C return: the table's number in the low byte (0: none), and the value above it.
 use Prim.Native.Nat.{ℕ, _+_, _*_}
-use mathlib.Core.List.{List}
+use mathlib.Core.List.{List, map, flatten}
+use Rattle.pack.specs.declared.check.Checked.{Checked}
 use Rattle.pack.specs.Answers.{refusalPlace, checkedNumber, checkedValue}
 use Rattle.pack.specs.Bytes.{marksIn}
 use Rattle.pack.specs.Pack.{checkPack}
@@ -8,8 +9,9 @@ use Rattle.pack.specs.Question.{checkQuestion}
 use Rattle.engine.specs.declared.write.SheetAnswer.{SheetAnswer}
 use Rattle.engine.specs.declared.write.SheetAnswer.the-variants as answer
 use Rattle.engine.specs.Answers.{verdictNumber, verdictValue, sheetNumber}
-use Rattle.engine.specs.Sheet.{askSheet}
+use Rattle.engine.specs.Sheet.{wordBytes, askSheet}
 use Rattle.engine.specs.Verdict.{askVerdict}
+use Rattle.reasons.specs.Module.{moduleMarks, marksLeft, askModule}
 
 abbrev pub deskCode : ℕ → ℕ → ℕ
 deskCode number value = number + 256 * value
@@ -36,3 +38,19 @@ sheetValueC (answer.Not k) = 2 * k + 0
 unfoldable pub sheetCode : ℕ → ℕ → List ℕ → List ℕ → ℕ → ℕ → List ℕ → ℕ
 sheetCode n m s marks a b sheet =
     deskCode (sheetNumber (askSheet n m s (marksIn marks) a b sheet)) (sheetValueC (askSheet n m s (marksIn marks) a b sheet))
+
+-- marks out as bytes, each word's low byte first
+unfoldable pub wordsBytes : List ℕ → List ℕ
+wordsBytes ws = flatten (map wordBytes ws)
+
+-- the marks out are judged like the marks in: bytes of another length are no words
+abbrev pub askModuleC : ℕ → ℕ → List ℕ → List ℕ → ℕ → List ℕ → Checked
+askModuleC n m s marks a out = askModule n m s (marksIn marks) a (marksIn out)
+
+unfoldable pub moduleCode : ℕ → ℕ → List ℕ → List ℕ → ℕ → List ℕ → ℕ
+moduleCode n m s marks a out =
+    deskCode (checkedNumber (askModuleC n m s marks a out)) (checkedValue (askModuleC n m s marks a out))
+
+-- the bytes out afterwards: those of the module's marks, or, on a refusal, as they were
+unfoldable pub moduleBytes : ℕ → ℕ → List ℕ → List ℕ → ℕ → List ℕ → List ℕ
+moduleBytes n m s marks a out = marksLeft (askModuleC n m s marks a out) (wordsBytes (moduleMarks n m s (marksIn marks) a)) out

@@ -1,21 +1,27 @@
 // The calls for C, on numbers and byte slices: each is the Rattle call of its name, and an encoding of what it answers.
 ghost use mathlib.Core.Path.{_≡_};
 ghost use Rattle.pack.specs.Answers.{checkedNumber, checkedValue};
+ghost use mathlib.Core.List.{[]};
 ghost use Prim.Native.Nat.{_+_, _*_, _≤_};
+ghost use lib.ListN.{length};
 ghost use Rattle.pack.specs.Bytes.{marksIn};
 ghost use Rattle.engine.specs.Answers.{verdictNumber, verdictValue, sheetNumber};
 ghost use Rattle.engine.specs.Sheet.{writtenSheet};
-ghost use Rattle.desk.specs.Desk.{deskCode, packCode, questionCode, verdictCode, sheetValueC, sheetCode};
+ghost use Rattle.pack.specs.Question.{checkQuestion};
+ghost use Rattle.reasons.specs.Module.{marksLeft};
+ghost use Rattle.desk.specs.Desk.{deskCode, packCode, questionCode, verdictCode, sheetValueC, sheetCode, wordsBytes, moduleCode, moduleBytes};
 use engine::verdict::VerdictAnswer;
 use engine::verdict::verdict;
 use engine::write::SheetAnswer;
 use engine::write::write_sheet;
+use engine::write::write_word;
 use pack::bytes::read_marks;
 use pack::check::Checked;
 use pack::check::check_pack;
 use pack::check::refusal_number;
 use pack::check::refusal_place;
 use pack::question::check_question;
+use reasons::module::module_for;
 
 // The table's number in the low byte, and the value above it.
 fn desk_code(number: u32, value: u32) -> u64
@@ -164,4 +170,72 @@ pub extern "C" fn noolukask_write_sheet<'a>(
         b as usize,
         sheet,
     ))
+}
+
+// The 16 words into the 128 bytes of marks out, each into the part that starts at 8 times its index.
+fn write_marks(words: &[u64; 16], out: &mut [u8])
+    requires { ⌜ (length (now words) ≡ 16) × (length (now out) ≡ 128) ⌝ }
+    ensures { λ _. ⌜ now (out .exit) ≡ wordsBytes (now (words .entry)) ⌝ }
+{
+    let mut j = 0;
+    while j < 16 {
+        let at = j * 8;
+        let end = at + 8;
+        let w = words[j];
+        write_word(&mut out[at..end], w);
+        j += 1;
+    }
+}
+
+// What comes back where marks in or out are not 128 bytes: MARKS, or a lower number.
+fn unread_code(n: u64, m: u64, pack: &[u8], a: u64, b: u64) -> u64
+    ensures { λ r. ⌜ r ≡ deskCode (checkedNumber (checkQuestion n m (now (pack .entry)) [] a b)) (checkedValue (checkQuestion n m (now (pack .entry)) [] a b)) ⌝ }
+{
+    let unread = [0u64; 0];
+    checked_code(check_question(
+        n as usize,
+        m as usize,
+        pack,
+        &unread,
+        a as usize,
+        b as usize,
+    ))
+}
+
+// What the module call returns; where nothing is refused, the words that were found go into the marks out.
+fn module_code(answer: Checked, found: &[u64; 16], out: &mut [u8]) -> u64
+    requires { ⌜ (length (now found) ≡ 16) × (length (now out) ≡ 128) ⌝ }
+    ensures { λ r. ⌜ (r ≡ deskCode (checkedNumber answer) (checkedValue answer)) × (now (out .exit) ≡ marksLeft answer (wordsBytes (now (found .entry))) (now (out .entry))) ⌝ }
+{
+    match answer {
+        Checked::Refused(why) => desk_code(refusal_number(why), refusal_place(why)),
+        Checked::Count(count) => {
+            write_marks(found, out);
+            desk_code(0, count)
+        }
+    }
+}
+
+// The module for C, the marks in and out as 128 bytes.
+#[no_mangle]
+pub extern "C" fn noolukask_module<'a>(
+    n: u64,
+    m: u64,
+    pack: &'a [u8],
+    marks: &'a [u8],
+    a: u64,
+    out: &mut [u8],
+) -> u64
+    ensures { λ r. ⌜ (r ≡ moduleCode n m (now (pack .entry)) (now (marks .entry)) a (now (out .entry))) × (now (out .exit) ≡ moduleBytes n m (now (pack .entry)) (now (marks .entry)) a (now (out .entry))) ⌝ }
+{
+    if marks.len() != 128 {
+        return unread_code(n, m, pack, a, a);
+    }
+    if out.len() != 128 {
+        return unread_code(n, m, pack, a, a);
+    }
+    let words = read_marks(marks);
+    let mut found = [0u64; 16];
+    let answer = module_for(n as usize, m as usize, pack, &words, a as usize, &mut found);
+    module_code(answer, &found, out)
 }

@@ -28,7 +28,7 @@ pub enum SheetAnswer {
 }
 
 // The 8 bytes of a word into its part, the low one first.
-fn write_word(part: &mut [u8], w: u64)
+pub fn write_word(part: &mut [u8], w: u64)
     requires { ⌜ length (now part) ≡ 8 ⌝ }
     ensures { λ _. ⌜ now (part .exit) ≡ wordBytes w ⌝ }
 {

@@ -125,6 +125,10 @@ module _ (n m : ℕ) (s ws : List ℕ) (a : ℕ) (out : List ℕ) where
       go (Refused why) h g = let z : _≡_ {A = ℕ} 0 1 = cc in absurd (omega arith)
       go (Count j) h g = (j, h)
 
+  pub module-written : {k : ℕ} → askModule n m s ws a out ≡ Count k → writtenModule n m s ws a out ≡ moduleMarks n m s ws a
+  unfolding writtenModule
+  module-written e = rw e
+
   -- THE MODULE CALL IS RIGHT: where it counts, the words out mark exactly the module, and so many places
   pub module-right : {k : ℕ} → askModule n m s ws a out ≡ Count k → MarksModule s ws a k (writtenModule n m s ws a out)
   module-right {k} e =
@@ -139,6 +143,11 @@ module _ (n m : ℕ) (s ws : List ℕ) (a : ℕ) (out : List ℕ) where
         past = marks-past n m s ws a taken;
         count = same;
       })
+
+  -- of the marks out only the length is judged
+  pub module-length : (out′ : List ℕ) → length out ≡ length out′ → askModule n m s ws a out ≡ askModule n m s ws a out′
+  unfolding askModule
+  module-length out′ e = rw e
 
   -- NO SECOND RESULT AND NO SECOND CONTENT OF THE MARKS OUT keeps the promise
   pub module-fixed : (out₁ out₂ : List ℕ) (r r′ : Checked) → (r ≡ askModule n m s ws a out) × (out₁ ≡ writtenModule n m s ws a out) → (r′ ≡ askModule n m s ws a out) × (out₂ ≡ writtenModule n m s ws a out) → (r ≡ r′) × (out₁ ≡ out₂)

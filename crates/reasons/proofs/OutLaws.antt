@@ -32,6 +32,9 @@ module _ (P : ℕ → Bool) where
   unfolding marksOf
   marks-word j h = listed-at (λ j. row 64 (λ i. P (j * 64 + i))) 0 16 0 j h ∙ ap (λ (k : ℕ). row 64 (λ i. P (k * 64 + i))) (omega arith)
 
+  pub marks-small : (j : ℕ) → j < 16 → getD (marksOf P) j 0 < 2 ^ 64
+  marks-small j h = rw (marks-word j h) (row-lt 64 (λ i. P (j * 64 + i)))
+
   -- PLACE i IS MARKED where P i, and nothing past the 1,024 places is
   pub marked-of : (i : ℕ) → i < 1024 → marked (marksOf P) i ≡ P i
   marked-of i h =
@@ -55,8 +58,7 @@ module _ (P : ℕ → Bool) where
 
 -- sets of the same places have the same words
 pub marks-alike : (P Q : ℕ → Bool) → ((i : ℕ) → i < 1024 → P i ≡ Q i) → marksOf P ≡ marksOf Q
-marks-alike P Q h =
-    marks-same Q (marksOf P) (marks-length P) (λ j l. rw (marks-word P j l) (row-lt 64 (λ i. P (j * 64 + i)))) (λ i l. marked-of P i l ∙ h i l)
+marks-alike P Q h = marks-same Q (marksOf P) (marks-length P) (marks-small P) (λ i l. marked-of P i l ∙ h i l)
 
 -- WHERE A QUESTION IS TAKEN there are 16 words out, and the marks in are judged as they are
 module _ (n m : ℕ) (s ws : List ℕ) (a b : ℕ) (out : List ℕ) where

@@ -1,0 +1,132 @@
+-- Laws of marks out for C: words put into their bytes one after the other, marks that are not 128 bytes, and the module's answer.
+use mathlib.Core.Path.{_≡_, refl, sym, ap, _∙_}
+use mathlib.Core.Bool.{Bool, true, false, cond}
+use mathlib.Core.List.{List, [], _++_, map, flatten, append-nil}
+use Prim.Native.Nat.{ℕ, _+_, _-_, _*_, _^_, _≤_, _<_}
+use native.Mathlib.Nat.{zero-add}
+use native.Mathlib.Numerals.{add-one}
+use native.Mathlib.Omega.{arith}
+use lib.Dec.{eqb}
+use lib.ListN.{length, getD, take, drop, length-append, length-drop, drop-of-length-le}
+use lib.Seq.{take-suc, take-all, length-take-le, ext-getD}
+use borrow.Author.Tests.{eq-eqb, ne-eqb}
+use borrow.Rule.Slice.PartMut.{putMid, post-is}
+use Rattle.pack.specs.declared.check.Checked.{Checked}
+use Rattle.pack.specs.declared.check.Checked.the-variants.{Refused, Count}
+use Rattle.pack.specs.declared.check.Refusal.{Refusal}
+use Rattle.pack.specs.Answers.{checkedNumber, checkedValue}
+use Rattle.pack.specs.Bytes.{wordIn, part, listed, wordsIn, marksIn}
+use Rattle.pack.specs.Marks.{counted}
+use Rattle.pack.specs.Question.{checkQuestion}
+use Rattle.pack.specs.Record.{linesOf}
+use Rattle.pack.proofs.Parts.{listed-length, listed-at}
+use Rattle.pack.proofs.QuestionLaws.{asked}
+use Rattle.engine.specs.Sheet.{wordBytes}
+use Rattle.engine.proofs.BytesLaws.{parts-length, parts-all, parts-on, word-length, word-in, with-part}
+use Rattle.reasons.specs.OutMarks.{marksOf, marksBoth}
+use Rattle.reasons.specs.Reach.{moduleOf}
+use Rattle.reasons.specs.Module.{moduleMarks, marksLeft, askModule, writtenModule}
+use Rattle.reasons.proofs.ModuleLaws.{MarksModule, module-written, module-refused, module-right, module-length}
+use Rattle.reasons.proofs.OutLaws.{marks-length, marks-small}
+use Rattle.desk.specs.Desk.{deskCode, wordsBytes, askModuleC, moduleCode, moduleBytes}
+
+-- the bytes of the first j words, and what stands after them
+abbrev pub Filled : List ℕ → List ℕ → ℕ → List ℕ
+Filled ws out₀ j = wordsBytes (take j ws) ++ drop (8 * j) out₀
+
+module _ (ws out₀ : List ℕ) (sixteen : length ws ≡ 16) (all : length out₀ ≡ 128) where
+  bytes-length : (j : ℕ) → j ≤ 16 → length (wordsBytes (take j ws)) ≡ 8 * j
+  unfolding wordsBytes
+  bytes-length j h = parts-length wordBytes word-length (take j ws) ∙ ap (λ (k : ℕ). 8 * k) (length-take-le j ws (omega arith))
+
+  pub filled-length : (j : ℕ) → j ≤ 16 → length (Filled ws out₀ j) ≡ 128
+  filled-length j h = simp (length-append, length-drop) (omega (arith, bytes-length j h))
+
+  -- WORD j INTO ITS PART
+  pub filled-more : (out : List ℕ) (j : ℕ) {bytes : List ℕ} → j < 16 → out ≡ Filled ws out₀ j → bytes ≡ wordBytes (getD ws j 0) → putMid (j * 8) ((j * 8 + 8) - j * 8) out bytes ≡ Filled ws out₀ (j + 1)
+  unfolding wordsBytes
+  filled-more out j {bytes} h e g =
+      rw (e, g, post-is (j * 8) (j * 8 + 8) (Filled ws out₀ j) (omega arith))
+      (sym (with-part (Filled ws out₀ j) j (wordBytes (getD ws j 0)) (omega (arith, filled-length j (omega arith))))
+      ∙ parts-on wordBytes word-length (take j ws) (getD ws j 0) j out₀ (length-take-le j ws (omega arith)) (omega arith)
+      ∙ ap (λ (l : List ℕ). flatten (map wordBytes l) ++ drop (8 * (j + 1)) out₀) (sym (ap (λ (k : ℕ). take k ws) (add-one j) ∙ take-suc ws j 0 (omega arith))))
+
+  pub filled-end : Filled ws out₀ 16 ≡ wordsBytes ws
+  filled-end = rw (take-all 16 ws (omega arith), drop-of-length-le out₀ {i = 128} (omega arith)) (append-nil (wordsBytes ws))
+
+-- THE BYTES OF 16 WORDS, handed back as marks in, ARE THOSE WORDS
+pub bytes-back : (ws : List ℕ) → length ws ≡ 16 → ((j : ℕ) → j < 16 → getD ws j 0 < 2 ^ 64) → marksIn (wordsBytes ws) ≡ ws
+unfolding wordsIn wordsBytes
+bytes-back ws sixteen small =
+    let bytes = flatten (map wordBytes ws) in
+    let at : ℕ → ℕ = λ j. wordIn (part bytes j) in
+    rw (eq-eqb (length bytes) 128 (parts-length wordBytes word-length ws ∙ omega arith))
+    (ext-getD 0 (listed 16 0 at) ws (listed-length at 16 0 ∙ sym sixteen)
+    (λ j h.
+    let l : j < 16 = omega (arith, listed-length at 16 0) in
+    listed-at at 0 16 0 j l
+    ∙ ap at (zero-add j)
+    ∙ ap wordIn (parts-all wordBytes word-length ws j 0 (omega arith))
+    ∙ word-in (getD ws j 0) (small j l)))
+
+-- WHERE MARKS IN OR OUT ARE NOT 128 BYTES, no words are judged, and the question is refused
+pub unread-in : (marks out : List ℕ) → (length marks ≡ 128 → ⊥) → marksBoth (marksIn marks) (marksIn out) ≡ []
+unread-in marks out h = rw (ne-eqb (length marks) 128 h) (none (eqb (length (marksIn out)) 16))
+  where
+    none : (t : Bool) → _≡_ {A = List ℕ} (cond t [] []) []
+    none true = refl
+    none false = refl
+
+pub unread-out : (marks out : List ℕ) → (length out ≡ 128 → ⊥) → marksBoth (marksIn marks) (marksIn out) ≡ []
+unread-out marks out h = rw (ne-eqb (length out) 128 h)
+
+pub unread-refused : (n m : ℕ) (s : List ℕ) (a b : ℕ) → (why : Refusal) × (checkQuestion n m s [] a b ≡ Refused why)
+unread-refused n m s a b = go (checkQuestion n m s [] a b) refl
+  where
+    go : (r : Checked) → checkQuestion n m s [] a b ≡ r → (why : Refusal) × (checkQuestion n m s [] a b ≡ Refused why)
+    go (Refused why) e = (why, e)
+    go (Count k) e = absurd (let six = asked n m s [] a b e .marks .sixteen in omega arith)
+
+-- bytes of the right length are 16 words
+pub read-length : (out : List ℕ) → length out ≡ 128 → length (marksIn out) ≡ 16
+unfolding wordsIn
+read-length out h = rw (eq-eqb (length out) 128 h) (listed-length (λ j. wordIn (part out j)) 16 0)
+
+module _ (n m : ℕ) (s marks : List ℕ) (a : ℕ) (out : List ℕ) where
+  pub module-unread : {r : ℕ} → marksBoth (marksIn marks) (marksIn out) ≡ [] → r ≡ deskCode (checkedNumber (checkQuestion n m s [] a a)) (checkedValue (checkQuestion n m s [] a a))
+      → (r ≡ moduleCode n m s marks a out) × (out ≡ moduleBytes n m s marks a out)
+  unfolding moduleCode moduleBytes
+  module-unread e h =
+      let u = unread-refused n m s a a in
+      let t = module-refused n m s (marksIn marks) a (marksIn out) (ap (λ (ws : List ℕ). checkQuestion n m s ws a a) e ∙ u .1) in
+      (rw (t .0) (rw (u .1) at h), rw (t .0))
+
+  -- THE MODULE FROM ITS WORDS, found in 16 words of any content
+  pub module-read : {r : ℕ} {answer : Checked} {after found : List ℕ} (blank : List ℕ) → length marks ≡ 128 → length out ≡ 128 → length blank ≡ 16
+      → answer ≡ askModule n m s (wordsIn marks) a blank → found ≡ writtenModule n m s (wordsIn marks) a blank
+      → r ≡ deskCode (checkedNumber answer) (checkedValue answer) → after ≡ marksLeft answer (wordsBytes found) out
+      → (r ≡ moduleCode n m s marks a out) × (after ≡ moduleBytes n m s marks a out)
+  unfolding moduleCode moduleBytes writtenModule
+  module-read {r} {answer} {after} {found} blank hm ho hb e f g h =
+      let words : marksIn marks ≡ wordsIn marks = rw (eq-eqb (length marks) 128 hm) in
+      let same : answer ≡ askModuleC n m s marks a out = e ∙ module-length n m s (wordsIn marks) a blank (marksIn out) (hb ∙ sym (read-length out ho)) ∙ rw words in
+      let ours = moduleMarks n m s (wordsIn marks) a in (
+        rw (← same) g,
+        h
+            ∙ ap (λ (l : List ℕ). marksLeft answer (wordsBytes l) out) (f ∙ ap (λ (t : Checked). marksLeft t ours blank) (sym e))
+            ∙ left answer ours
+            ∙ ap (λ (t : Checked). marksLeft t (wordsBytes ours) out) same
+            ∙ ap (λ (ws : List ℕ). marksLeft (askModuleC n m s marks a out) (wordsBytes (moduleMarks n m s ws a)) out) (sym words),
+      )
+    where
+      left : (t : Checked) (ours : List ℕ) → marksLeft t (wordsBytes (marksLeft t ours blank)) out ≡ marksLeft t (wordsBytes ours) out
+      left (Refused why) ours = refl
+      left (Count k) ours = refl
+
+  -- THE MODULE CALL FOR C IS RIGHT: where it counts, the bytes out, read as marks, mark exactly the module, and so many places
+  pub module-call-right : {k : ℕ} → askModuleC n m s marks a out ≡ Count k → MarksModule s (marksIn marks) a k (marksIn (moduleBytes n m s marks a out))
+  unfolding moduleBytes
+  module-call-right {k} e =
+      let M = moduleOf (linesOf s) (counted s (marksIn marks)) n m a in
+      let right = module-right n m s (marksIn marks) a (marksIn out) e in
+      rw (e, bytes-back (marksOf M) (marks-length M) (marks-small M)) (rw (module-written n m s (marksIn marks) a (marksIn out) e) at right)

@@ -1,0 +1,63 @@
+use Rattle.desk.proofs.MarksLaws.{unread-in, unread-out, module-unread, module-read}
+use mathlib.Core.Path.{refl}
+-- `desk::noolukask_module` meets its contract.
+use borrow.Author.Needs.{needs}
+use Rattle.desk.proofs.noolukask_module.Statement.{statement}
+use Rattle.desk.proofs.noolukask_module.Tie as tie
+
+unread-code-requires : tie.Need-unread-code-requires
+unread-code-requires c κs = search needs
+
+returns : tie.Need-returns
+returns c =
+    let a = c .before .before .before .before .before .args in
+    module-unread _ _ _ (a .marks .now) _ (a .out .now) (unread-in (a .marks .now) (a .out .now) (c .before .if1 .taken)) (c .unread-code .ensures)
+
+unread-code-requires-2 : tie.Need-unread-code-requires-2
+unread-code-requires-2 c κs = search needs
+
+returns-2 : tie.Need-returns-2
+returns-2 c =
+    let a = c .before .before .before .before .before .before .args in
+    module-unread _ _ _ (a .marks .now) _ (a .out .now) (unread-out (a .marks .now) (a .out .now) (c .before .if2 .taken)) (c .unread-code2 .ensures)
+
+read-marks-requires : tie.Need-read-marks-requires
+read-marks-requires c κs = search needs
+
+slice-aggregate-module-for : tie.Need-slice-aggregate-module-for
+slice-aggregate-module-for c = search needs
+
+slice-aggregate-module-for-2 : tie.Need-slice-aggregate-module-for-2
+slice-aggregate-module-for-2 c = search needs
+
+module-for-requires : tie.Need-module-for-requires
+module-for-requires c κs = search needs
+
+module-code-requires : tie.Need-module-code-requires
+module-code-requires c κs = search needs
+
+same-length : tie.Need-same-length
+same-length c = search needs
+
+returns-3 : tie.Need-returns-3
+returns-3 c =
+    let found = c .before .before .before .before .before .before .module-for .ensures in
+    let words = c .before .before .before .before .before .before .before .before .before .read-marks .ensures in
+    let code = c .before .before .module-code .ensures in
+    module-read _ _ _ _ _ _ _ (c .before .before .before .before .before .before .before .before .before .before .before .if1 .left) (c .before .before .before .before .before .before .before .before .before .before .if2 .left) refl (rw words at (found .0)) (rw words at (found .1)) (code .0) (code .1)
+
+pub noolukask-module-spec : {M : Type 1} → statement M
+noolukask-module-spec =
+    tie.close
+    (tie.spec
+    unread-code-requires
+    returns
+    unread-code-requires-2
+    returns-2
+    read-marks-requires
+    slice-aggregate-module-for
+    slice-aggregate-module-for-2
+    module-for-requires
+    module-code-requires
+    same-length
+    returns-3)
