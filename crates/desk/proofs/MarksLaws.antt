@@ -1,4 +1,4 @@
--- Laws of marks out for C: words put into their bytes one after the other, marks that are not 128 bytes, and the module's answer.
+-- Laws of marks out for C: words put into their bytes one after the other, marks that are not 128 bytes, and the answers of the module and of the set.
 use mathlib.Core.Path.{_≡_, refl, sym, ap, _∙_}
 use mathlib.Core.Bool.{Bool, true, false, cond}
 use mathlib.Core.List.{List, [], _++_, map, flatten, append-nil}
@@ -16,8 +16,9 @@ use Rattle.pack.specs.declared.check.Checked.the-variants.{Refused, Count}
 use Rattle.pack.specs.declared.check.Refusal.{Refusal}
 use Rattle.pack.specs.Answers.{checkedNumber, checkedValue}
 use Rattle.pack.specs.Bytes.{wordIn, part, listed, wordsIn, marksIn}
-use Rattle.pack.specs.Marks.{counted}
-use Rattle.pack.specs.Question.{checkQuestion}
+use Rattle.pack.specs.Marks.{marked, counted, markCount}
+use Rattle.pack.specs.Question.{checkQuestion, Taken}
+use Rattle.pack.specs.World.{Follows}
 use Rattle.pack.specs.Record.{linesOf}
 use Rattle.pack.proofs.Parts.{listed-length, listed-at}
 use Rattle.pack.proofs.QuestionLaws.{asked}
@@ -27,8 +28,14 @@ use Rattle.reasons.specs.OutMarks.{marksOf, marksBoth}
 use Rattle.reasons.specs.Reach.{moduleOf}
 use Rattle.reasons.specs.Module.{moduleMarks, marksLeft, askModule, writtenModule}
 use Rattle.reasons.proofs.ModuleLaws.{MarksModule, module-written, module-refused, module-right, module-length}
+use Rattle.reasons.specs.declared.set.SetAnswer.{SetAnswer}
+use Rattle.reasons.specs.declared.set.SetAnswer.the-variants as sets
+use Rattle.reasons.specs.Printed.{IsPrinted, printed}
+use Rattle.reasons.specs.Set.{setNumber, setValue, setWords, setLeft, askSet, writtenSet}
+use Rattle.reasons.proofs.SetLaws.{set-refused, set-length}
+use Rattle.reasons.proofs.SetRight.{set-found, set-printed}
 use Rattle.reasons.proofs.OutLaws.{marks-length, marks-small}
-use Rattle.desk.specs.Desk.{deskCode, wordsBytes, askModuleC, moduleCode, moduleBytes}
+use Rattle.desk.specs.Desk.{deskCode, wordsBytes, askModuleC, moduleCode, moduleBytes, setCode, setBytes}
 
 -- the bytes of the first j words, and what stands after them
 abbrev pub Filled : List ℕ → List ℕ → ℕ → List ℕ
@@ -92,6 +99,24 @@ pub read-length : (out : List ℕ) → length out ≡ 128 → length (marksIn ou
 unfolding wordsIn
 read-length out h = rw (eq-eqb (length out) 128 h) (listed-length (λ j. wordIn (part out j)) 16 0)
 
+-- OF A CALL WITH MARKS OUT, whose answer goes by their length alone: what it makes of 16 words of any content is what it makes of the bytes
+module _ {A : Type 0} (left : A → List ℕ → List ℕ → List ℕ) (again : (t : A) (ours blank after : List ℕ) → left t (wordsBytes (left t ours blank)) after ≡ left t (wordsBytes ours) after) (number value : A → ℕ)
+    (ask : List ℕ → List ℕ → A) (ours : List ℕ → List ℕ) (same-length : (ws out out′ : List ℕ) → length out ≡ length out′ → ask ws out ≡ ask ws out′) (marks out : List ℕ) where
+  pub call-read : {r : ℕ} {answer : A} {after found : List ℕ} (blank : List ℕ) → length marks ≡ 128 → length out ≡ 128 → length blank ≡ 16
+      → answer ≡ ask (wordsIn marks) blank → found ≡ left (ask (wordsIn marks) blank) (ours (wordsIn marks)) blank
+      → r ≡ deskCode (number answer) (value answer) → after ≡ left answer (wordsBytes found) out
+      → (r ≡ deskCode (number (ask (marksIn marks) (marksIn out))) (value (ask (marksIn marks) (marksIn out)))) × (after ≡ left (ask (marksIn marks) (marksIn out)) (wordsBytes (ours (marksIn marks))) out)
+  call-read {r} {answer} {after} {found} blank hm ho hb e f g h =
+      let words : marksIn marks ≡ wordsIn marks = rw (eq-eqb (length marks) 128 hm) in
+      let same : answer ≡ ask (marksIn marks) (marksIn out) = e ∙ same-length (wordsIn marks) blank (marksIn out) (hb ∙ sym (read-length out ho)) ∙ ap (λ (ws : List ℕ). ask ws (marksIn out)) (sym words) in (
+        g ∙ ap (λ (t : A). deskCode (number t) (value t)) same,
+        h
+            ∙ ap (λ (l : List ℕ). left answer (wordsBytes l) out) (f ∙ ap (λ (t : A). left t (ours (wordsIn marks)) blank) (sym e))
+            ∙ again answer (ours (wordsIn marks)) blank out
+            ∙ ap (λ (t : A). left t (wordsBytes (ours (wordsIn marks))) out) same
+            ∙ ap (λ (ws : List ℕ). left (ask (marksIn marks) (marksIn out)) (wordsBytes (ours ws)) out) (sym words),
+      )
+
 module _ (n m : ℕ) (s marks : List ℕ) (a : ℕ) (out : List ℕ) where
   pub module-unread : {r : ℕ} → marksBoth (marksIn marks) (marksIn out) ≡ [] → r ≡ deskCode (checkedNumber (checkQuestion n m s [] a a)) (checkedValue (checkQuestion n m s [] a a))
       → (r ≡ moduleCode n m s marks a out) × (out ≡ moduleBytes n m s marks a out)
@@ -107,21 +132,12 @@ module _ (n m : ℕ) (s marks : List ℕ) (a : ℕ) (out : List ℕ) where
       → r ≡ deskCode (checkedNumber answer) (checkedValue answer) → after ≡ marksLeft answer (wordsBytes found) out
       → (r ≡ moduleCode n m s marks a out) × (after ≡ moduleBytes n m s marks a out)
   unfolding moduleCode moduleBytes writtenModule
-  module-read {r} {answer} {after} {found} blank hm ho hb e f g h =
-      let words : marksIn marks ≡ wordsIn marks = rw (eq-eqb (length marks) 128 hm) in
-      let same : answer ≡ askModuleC n m s marks a out = e ∙ module-length n m s (wordsIn marks) a blank (marksIn out) (hb ∙ sym (read-length out ho)) ∙ rw words in
-      let ours = moduleMarks n m s (wordsIn marks) a in (
-        rw (← same) g,
-        h
-            ∙ ap (λ (l : List ℕ). marksLeft answer (wordsBytes l) out) (f ∙ ap (λ (t : Checked). marksLeft t ours blank) (sym e))
-            ∙ left answer ours
-            ∙ ap (λ (t : Checked). marksLeft t (wordsBytes ours) out) same
-            ∙ ap (λ (ws : List ℕ). marksLeft (askModuleC n m s marks a out) (wordsBytes (moduleMarks n m s ws a)) out) (sym words),
-      )
+  module-read =
+      call-read marksLeft left checkedNumber checkedValue (λ ws. askModule n m s ws a) (λ ws. moduleMarks n m s ws a) (λ ws. module-length n m s ws a) marks out
     where
-      left : (t : Checked) (ours : List ℕ) → marksLeft t (wordsBytes (marksLeft t ours blank)) out ≡ marksLeft t (wordsBytes ours) out
-      left (Refused why) ours = refl
-      left (Count k) ours = refl
+      left : (t : Checked) (ours blank after : List ℕ) → marksLeft t (wordsBytes (marksLeft t ours blank)) after ≡ marksLeft t (wordsBytes ours) after
+      left (Refused why) ours blank after = refl
+      left (Count k) ours blank after = refl
 
   -- THE MODULE CALL FOR C IS RIGHT: where it counts, the bytes out, read as marks, mark exactly the module, and so many places
   pub module-call-right : {k : ℕ} → askModuleC n m s marks a out ≡ Count k → MarksModule s (marksIn marks) a k (marksIn (moduleBytes n m s marks a out))
@@ -130,3 +146,38 @@ module _ (n m : ℕ) (s marks : List ℕ) (a : ℕ) (out : List ℕ) where
       let M = moduleOf (linesOf s) (counted s (marksIn marks)) n m a in
       let right = module-right n m s (marksIn marks) a (marksIn out) e in
       rw (e, bytes-back (marksOf M) (marks-length M) (marks-small M)) (rw (module-written n m s (marksIn marks) a (marksIn out) e) at right)
+
+module _ (n m : ℕ) (s marks : List ℕ) (a b : ℕ) (out : List ℕ) where
+  pub set-unread : {r : ℕ} → marksBoth (marksIn marks) (marksIn out) ≡ [] → r ≡ deskCode (checkedNumber (checkQuestion n m s [] a b)) (checkedValue (checkQuestion n m s [] a b))
+      → (r ≡ setCode n m s marks a b out) × (out ≡ setBytes n m s marks a b out)
+  unfolding setCode setBytes
+  set-unread e h =
+      let u = unread-refused n m s a b in
+      let t = set-refused n m s (marksIn marks) a b (marksIn out) (ap (λ (ws : List ℕ). checkQuestion n m s ws a b) e ∙ u .1) in
+      (rw (t .0) (rw (u .1) at h), rw (t .0))
+
+  -- THE PRINTED SET FROM ITS WORDS
+  pub set-read : {r : ℕ} {answer : SetAnswer} {after found : List ℕ} (blank : List ℕ) → length marks ≡ 128 → length out ≡ 128 → length blank ≡ 16
+      → answer ≡ askSet n m s (wordsIn marks) a b blank → found ≡ writtenSet n m s (wordsIn marks) a b blank
+      → r ≡ deskCode (setNumber answer) (setValue answer) → after ≡ setLeft answer (wordsBytes found) out
+      → (r ≡ setCode n m s marks a b out) × (after ≡ setBytes n m s marks a b out)
+  unfolding setCode setBytes writtenSet
+  set-read =
+      call-read setLeft left setNumber setValue (λ ws. askSet n m s ws a b) (λ ws. setWords n m s ws a b) (λ ws. set-length n m s ws a b) marks out
+    where
+      left : (t : SetAnswer) (ours blank after : List ℕ) → setLeft t (wordsBytes (setLeft t ours blank)) after ≡ setLeft t (wordsBytes ours) after
+      left (sets.Refused why) ours blank after = refl
+      left sets.TooLong ours blank after = refl
+      left sets.NotFollows ours blank after = refl
+      left (sets.Count k) ours blank after = refl
+
+  -- THE SET CALL FOR C IS RIGHT: where the goal follows, the bytes out, read as marks, mark the printed set, and so many places
+  pub set-call-right : Taken n m s (marksIn marks) a b → length out ≡ 128 → Follows (linesOf s) (counted s (marksIn marks)) a b
+      → IsPrinted (linesOf s) (counted s (marksIn marks)) a b (marked (marksIn (setBytes n m s marks a b out))) × (setCode n m s marks a b out ≡ deskCode 0 (markCount (marksIn (setBytes n m s marks a b out))))
+  unfolding setCode setBytes
+  set-call-right t l f =
+      let P = printed (linesOf s) (counted s (marksIn marks)) n m a b in
+      let found = set-found n m s (marksIn marks) a b t (marksIn out) (read-length out l) f in
+      let back = bytes-back (marksOf P) (marks-length P) (marks-small P) in
+      rw (found .1, found .0, back)
+      (rw (found .0) at (set-printed n m s (marksIn marks) a b t (marksIn out) (read-length out l) f), refl)

@@ -5,7 +5,7 @@ use Prim.Native.Nat.{ℕ}
 use Rattle.bits.proofs.Promises.{no-second}
 use Rattle.pack.specs.Bytes.{marksIn}
 use Rattle.engine.specs.Sheet.{writtenSheet}
-use Rattle.desk.specs.Desk.{packCode, questionCode, verdictCode, sheetCode, moduleCode, moduleBytes}
+use Rattle.desk.specs.Desk.{packCode, questionCode, verdictCode, sheetCode, moduleCode, moduleBytes, setCode, setBytes}
 
 pub check-pack-call-fixed : (n m : ℕ) (s : List ℕ) (r r′ : ℕ) → r ≡ packCode n m s → r′ ≡ packCode n m s → r ≡ r′
 check-pack-call-fixed n m s r r′ = no-second
@@ -25,3 +25,8 @@ pub module-call-fixed : (n m : ℕ) (s marks : List ℕ) (a : ℕ) (out out₁ o
     → (r ≡ moduleCode n m s marks a out) × (out₁ ≡ moduleBytes n m s marks a out)
     → (r′ ≡ moduleCode n m s marks a out) × (out₂ ≡ moduleBytes n m s marks a out) → (r ≡ r′) × (out₁ ≡ out₂)
 module-call-fixed n m s marks a out out₁ out₂ r r′ p q = (no-second (p .0) (q .0), no-second (p .1) (q .1))
+
+pub set-call-fixed : (n m : ℕ) (s marks : List ℕ) (a b : ℕ) (out out₁ out₂ : List ℕ) (r r′ : ℕ)
+    → (r ≡ setCode n m s marks a b out) × (out₁ ≡ setBytes n m s marks a b out)
+    → (r′ ≡ setCode n m s marks a b out) × (out₂ ≡ setBytes n m s marks a b out) → (r ≡ r′) × (out₁ ≡ out₂)
+set-call-fixed n m s marks a b out out₁ out₂ r r′ p q = (no-second (p .0) (q .0), no-second (p .1) (q .1))

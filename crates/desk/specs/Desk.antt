@@ -12,6 +12,8 @@ use Rattle.engine.specs.Answers.{verdictNumber, verdictValue, sheetNumber}
 use Rattle.engine.specs.Sheet.{wordBytes, askSheet}
 use Rattle.engine.specs.Verdict.{askVerdict}
 use Rattle.reasons.specs.Module.{moduleMarks, marksLeft, askModule}
+use Rattle.reasons.specs.declared.set.SetAnswer.{SetAnswer}
+use Rattle.reasons.specs.Set.{setNumber, setValue, setWords, setLeft, askSet}
 
 abbrev pub deskCode : ℕ → ℕ → ℕ
 deskCode number value = number + 256 * value
@@ -54,3 +56,13 @@ moduleCode n m s marks a out =
 -- the bytes out afterwards: those of the module's marks, or, on a refusal, as they were
 unfoldable pub moduleBytes : ℕ → ℕ → List ℕ → List ℕ → ℕ → List ℕ → List ℕ
 moduleBytes n m s marks a out = marksLeft (askModuleC n m s marks a out) (wordsBytes (moduleMarks n m s (marksIn marks) a)) out
+
+-- the printed set in the same way
+abbrev pub askSetC : ℕ → ℕ → List ℕ → List ℕ → ℕ → ℕ → List ℕ → SetAnswer
+askSetC n m s marks a b out = askSet n m s (marksIn marks) a b (marksIn out)
+
+unfoldable pub setCode : ℕ → ℕ → List ℕ → List ℕ → ℕ → ℕ → List ℕ → ℕ
+setCode n m s marks a b out = deskCode (setNumber (askSetC n m s marks a b out)) (setValue (askSetC n m s marks a b out))
+
+unfoldable pub setBytes : ℕ → ℕ → List ℕ → List ℕ → ℕ → ℕ → List ℕ → List ℕ
+setBytes n m s marks a b out = setLeft (askSetC n m s marks a b out) (wordsBytes (setWords n m s (marksIn marks) a b)) out

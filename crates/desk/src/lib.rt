@@ -9,7 +9,8 @@ ghost use Rattle.engine.specs.Answers.{verdictNumber, verdictValue, sheetNumber
 ghost use Rattle.engine.specs.Sheet.{writtenSheet};
 ghost use Rattle.pack.specs.Question.{checkQuestion};
 ghost use Rattle.reasons.specs.Module.{marksLeft};
-ghost use Rattle.desk.specs.Desk.{deskCode, packCode, questionCode, verdictCode, sheetValueC, sheetCode, wordsBytes, moduleCode, moduleBytes};
+ghost use Rattle.reasons.specs.Set.{setNumber, setValue, setLeft};
+ghost use Rattle.desk.specs.Desk.{deskCode, packCode, questionCode, verdictCode, sheetValueC, sheetCode, wordsBytes, moduleCode, moduleBytes, setCode, setBytes};
 use engine::verdict::VerdictAnswer;
 use engine::verdict::verdict;
 use engine::write::SheetAnswer;
@@ -22,6 +23,8 @@ use pack::check::refusal_number;
 use pack::check::refusal_place;
 use pack::question::check_question;
 use reasons::module::module_for;
+use reasons::set::SetAnswer;
+use reasons::set::printed_set;
 
 // The table's number in the low byte, and the value above it.
 fn desk_code(number: u32, value: u32) -> u64
@@ -238,4 +241,53 @@ pub extern "C" fn noolukask_module<'a>(
     let mut found = [0u64; 16];
     let answer = module_for(n as usize, m as usize, pack, &words, a as usize, &mut found);
     module_code(answer, &found, out)
+}
+
+// What the printed set's call returns; where nothing is refused, the words that were found go into the marks out.
+fn set_code(answer: SetAnswer, found: &[u64; 16], out: &mut [u8]) -> u64
+    requires { ⌜ (length (now found) ≡ 16) × (length (now out) ≡ 128) ⌝ }
+    ensures { λ r. ⌜ (r ≡ deskCode (setNumber answer) (setValue answer)) × (now (out .exit) ≡ setLeft answer (wordsBytes (now (found .entry))) (now (out .entry))) ⌝ }
+{
+    match answer {
+        SetAnswer::Refused(why) => desk_code(refusal_number(why), refusal_place(why)),
+        SetAnswer::TooLong => desk_code(6, 0),
+        SetAnswer::NotFollows => desk_code(7, 0),
+        SetAnswer::Count(count) => {
+            write_marks(found, out);
+            desk_code(0, count)
+        }
+    }
+}
+
+// The printed set for C, the marks in and out as 128 bytes.
+#[no_mangle]
+pub extern "C" fn noolukask_printed_set<'a>(
+    n: u64,
+    m: u64,
+    pack: &'a [u8],
+    marks: &'a [u8],
+    a: u64,
+    b: u64,
+    out: &mut [u8],
+) -> u64
+    ensures { λ r. ⌜ (r ≡ setCode n m (now (pack .entry)) (now (marks .entry)) a b (now (out .entry))) × (now (out .exit) ≡ setBytes n m (now (pack .entry)) (now (marks .entry)) a b (now (out .entry))) ⌝ }
+{
+    if marks.len() != 128 {
+        return unread_code(n, m, pack, a, b);
+    }
+    if out.len() != 128 {
+        return unread_code(n, m, pack, a, b);
+    }
+    let words = read_marks(marks);
+    let mut found = [0u64; 16];
+    let answer = printed_set(
+        n as usize,
+        m as usize,
+        pack,
+        &words,
+        a as usize,
+        b as usize,
+        &mut found,
+    );
+    set_code(answer, &found, out)
 }

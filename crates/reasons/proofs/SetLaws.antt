@@ -137,3 +137,8 @@ module _ (n m : ℕ) (s ws : List ℕ) (a b : ℕ) (out : List ℕ) where
       × (writtenSet n m s ws a b out ≡ setLeft (setAfter (askVerdict n m s ws a b) (setWords n m s ws a b)) (setWords n m s ws a b) out)
   unfolding askSet writtenSet
   set-asked e = let both = both-taken n m s ws a b out e .1 in (rw both, rw both)
+
+  -- of the marks out only the length is judged
+  pub set-length : (out′ : List ℕ) → length out ≡ length out′ → askSet n m s ws a b out ≡ askSet n m s ws a b out′
+  unfolding askSet
+  set-length out′ e = rw e
