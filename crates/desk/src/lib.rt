@@ -194,15 +194,8 @@ fn write_marks(words: &[u64; 16], out: &mut [u8])
 fn unread_code(n: u64, m: u64, pack: &[u8], a: u64, b: u64) -> u64
     ensures { λ r. ⌜ r ≡ deskCode (checkedNumber (checkQuestion n m (now (pack .entry)) [] a b)) (checkedValue (checkQuestion n m (now (pack .entry)) [] a b)) ⌝ }
 {
-    let unread = [0u64; 0];
-    checked_code(check_question(
-        n as usize,
-        m as usize,
-        pack,
-        &unread,
-        a as usize,
-        b as usize,
-    ))
+    let none = [0u64; 0];
+    checked_code(check_question(n as usize, m as usize, pack, &none, a as usize, b as usize))
 }
 
 // What the module call returns; where nothing is refused, the words that were found go into the marks out.
