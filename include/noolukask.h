@@ -1,5 +1,5 @@
 /* Noolukask: does "A under B" follow from the marked records of a pack?
- * The calls below check packs, questions and the sheets that settle a question.
+ * And why? The calls below give verdicts, reasons and sheets, and check sheets.
  *
  * What is handed over
  *   n       how many concept numbers there are, 1 to 64: concepts are 0 to n-1
@@ -17,11 +17,13 @@
  *           i div 8; no bit at or above the record count may be set
  *   a, b    the goal: concept a under concept b; they may be equal
  *   sheet   what somebody offers as the answer, see below
+ *   out     128 bytes of marks that a call writes, whatever they held before
  *
  * Numbers and lengths may be of any value: what is out of range is refused.
- * Nothing that is handed over is kept or freed, and nothing but the buffer of
- * noolukask_write_sheet is changed. A pointer may be NULL
- * where its length is 0. Calls may run side by side.
+ * Nothing that is handed over is kept or freed, and nothing is changed but the sheet that
+ * noolukask_write_sheet is lent and the marks out of noolukask_module and
+ * noolukask_printed_set. A pointer may be NULL where its length is 0. Calls may run side
+ * by side.
  */
 #ifndef NOOLUKASK_H
 #define NOOLUKASK_H
@@ -41,6 +43,7 @@ enum noolukask_number {
     NOOLUKASK_MARKS = 4,      /* not 128 bytes, or a bit at or above the record count      */
     NOOLUKASK_GOAL = 5,       /* a goal concept not below n                                */
     NOOLUKASK_TOO_LONG = 6,   /* the passes would add over 36,800 facts: proved never given */
+    NOOLUKASK_NOT_FOLLOWS = 7, /* a set is asked for and the goal does not follow          */
     NOOLUKASK_NO_ROOM = 8,    /* our sheet is longer than the buffer: bytes needed         */
     NOOLUKASK_LENGTH = 9,     /* a sheet of an impossible length                           */
     NOOLUKASK_STEP = 10,      /* a step of a yes sheet is not good: lowest step            */
@@ -94,6 +97,16 @@ uint64_t noolukask_module(uint64_t n, uint64_t m,
                           const uint8_t *marks, size_t marks_len,
                           uint64_t a,
                           uint8_t *out, size_t out_len);
+
+/* The printed set of a goal that follows: of all sets of marked records from which it
+ * follows, the one that, at the lowest place where it differs from any other, lacks that
+ * record. With any one of its records taken out the goal no longer follows. Numbers 1 to
+ * 5, MARKS and out as above, and 7; else the value is the number of records in out. */
+uint64_t noolukask_printed_set(uint64_t n, uint64_t m,
+                               const uint8_t *pack, size_t pack_len,
+                               const uint8_t *marks, size_t marks_len,
+                               uint64_t a, uint64_t b,
+                               uint8_t *out, size_t out_len);
 
 /* ---- Library sheets: the two checks of a sheet ----------------------------------
  * Both return 0 when the sheet is accepted, else the table's number plus 16 times the

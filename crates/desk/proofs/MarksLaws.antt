@@ -1,6 +1,6 @@
 -- Laws of marks out for C: words put into their bytes one after the other, marks that are not 128 bytes, and the answers of the module and of the set.
 use mathlib.Core.Path.{_≡_, refl, sym, ap, _∙_}
-use mathlib.Core.Bool.{Bool, true, false, cond}
+use mathlib.Core.Bool.{Bool, true, false, cond, not, _||_}
 use mathlib.Core.List.{List, [], _++_, map, flatten, append-nil}
 use Prim.Native.Nat.{ℕ, _+_, _-_, _*_, _^_, _≤_, _<_}
 use native.Mathlib.Nat.{zero-add}
@@ -9,7 +9,8 @@ use native.Mathlib.Omega.{arith}
 use lib.Dec.{eqb}
 use lib.ListN.{length, getD, take, drop, length-append, length-drop, drop-of-length-le}
 use lib.Seq.{take-suc, take-all, length-take-le, ext-getD}
-use borrow.Author.Tests.{eq-eqb, ne-eqb}
+use borrow.Author.Tests.{eq-eqb, eqb-true}
+use Rattle.bits.proofs.Truth.{never}
 use borrow.Rule.Slice.PartMut.{putMid, post-is}
 use Rattle.pack.specs.declared.check.Checked.{Checked}
 use Rattle.pack.specs.declared.check.Checked.the-variants.{Refused, Count}
@@ -77,15 +78,25 @@ bytes-back ws sixteen small =
     ∙ word-in (getD ws j 0) (small j l)))
 
 -- WHERE MARKS IN OR OUT ARE NOT 128 BYTES, no words are judged, and the question is refused
-pub unread-in : (marks out : List ℕ) → (length marks ≡ 128 → ⊥) → marksBoth (marksIn marks) (marksIn out) ≡ []
-unread-in marks out h = rw (ne-eqb (length marks) 128 h) (none (eqb (length (marksIn out)) 16))
+pub unread-both : (marks out : List ℕ) → (not (eqb (length marks) 128) || not (eqb (length out) 128)) ≡ true → marksBoth (marksIn marks) (marksIn out) ≡ []
+unread-both marks out = go (eqb (length marks) 128) (eqb (length out) 128)
   where
     none : (t : Bool) → _≡_ {A = List ℕ} (cond t [] []) []
     none true = refl
     none false = refl
 
-pub unread-out : (marks out : List ℕ) → (length out ≡ 128 → ⊥) → marksBoth (marksIn marks) (marksIn out) ≡ []
-unread-out marks out h = rw (ne-eqb (length out) 128 h)
+    go : (t u : Bool) → (not t || not u) ≡ true → marksBoth (cond t (wordsIn marks) []) (cond u (wordsIn out) []) ≡ []
+    go true true h = never h refl
+    go true false h = refl
+    go false u h = none (eqb (length (cond u (wordsIn out) [])) 16)
+
+pub read-both : (marks out : ℕ) → (not (eqb marks 128) || not (eqb out 128)) ≡ false → (marks ≡ 128) × (out ≡ 128)
+read-both marks out = go (eqb marks 128) (eqb out 128) refl refl
+  where
+    go : (t u : Bool) → eqb marks 128 ≡ t → eqb out 128 ≡ u → (not t || not u) ≡ false → (marks ≡ 128) × (out ≡ 128)
+    go true true e f h = (eqb-true marks 128 e, eqb-true out 128 f)
+    go true false e f h = never refl h
+    go false u e f h = never refl h
 
 pub unread-refused : (n m : ℕ) (s : List ℕ) (a b : ℕ) → (why : Refusal) × (checkQuestion n m s [] a b ≡ Refused why)
 unread-refused n m s a b = go (checkQuestion n m s [] a b) refl

@@ -1,7 +1,9 @@
 // The calls for C, on numbers and byte slices: each is the Rattle call of its name, and an encoding of what it answers.
 ghost use mathlib.Core.Path.{_≡_};
 ghost use Rattle.pack.specs.Answers.{checkedNumber, checkedValue};
+ghost use mathlib.Core.Bool.{not, _||_};
 ghost use mathlib.Core.List.{[]};
+ghost use lib.Dec.{eqb};
 ghost use Prim.Native.Nat.{_+_, _*_, _≤_};
 ghost use lib.ListN.{length};
 ghost use Rattle.pack.specs.Bytes.{marksIn};
@@ -190,6 +192,13 @@ fn write_marks(words: &[u64; 16], out: &mut [u8])
     }
 }
 
+// Are the marks in or the marks out not 128 bytes?
+fn unread(marks: usize, out: usize) -> bool
+    ensures { λ r. ⌜ r ≡ (not (eqb marks 128) || not (eqb out 128)) ⌝ }
+{
+    (marks != 128) | (out != 128)
+}
+
 // What comes back where marks in or out are not 128 bytes: MARKS, or a lower number.
 fn unread_code(n: u64, m: u64, pack: &[u8], a: u64, b: u64) -> u64
     ensures { λ r. ⌜ r ≡ deskCode (checkedNumber (checkQuestion n m (now (pack .entry)) [] a b)) (checkedValue (checkQuestion n m (now (pack .entry)) [] a b)) ⌝ }
@@ -224,10 +233,7 @@ pub extern "C" fn noolukask_module<'a>(
 ) -> u64
     ensures { λ r. ⌜ (r ≡ moduleCode n m (now (pack .entry)) (now (marks .entry)) a (now (out .entry))) × (now (out .exit) ≡ moduleBytes n m (now (pack .entry)) (now (marks .entry)) a (now (out .entry))) ⌝ }
 {
-    if marks.len() != 128 {
-        return unread_code(n, m, pack, a, a);
-    }
-    if out.len() != 128 {
+    if unread(marks.len(), out.len()) {
         return unread_code(n, m, pack, a, a);
     }
     let words = read_marks(marks);
@@ -265,10 +271,7 @@ pub extern "C" fn noolukask_printed_set<'a>(
 ) -> u64
     ensures { λ r. ⌜ (r ≡ setCode n m (now (pack .entry)) (now (marks .entry)) a b (now (out .entry))) × (now (out .exit) ≡ setBytes n m (now (pack .entry)) (now (marks .entry)) a b (now (out .entry))) ⌝ }
 {
-    if marks.len() != 128 {
-        return unread_code(n, m, pack, a, b);
-    }
-    if out.len() != 128 {
+    if unread(marks.len(), out.len()) {
         return unread_code(n, m, pack, a, b);
     }
     let words = read_marks(marks);

@@ -1,28 +1,24 @@
-use Rattle.desk.proofs.MarksLaws.{unread-in, unread-out, module-unread, module-read}
-use mathlib.Core.Path.{refl}
+use Rattle.desk.proofs.MarksLaws.{unread-both, read-both, module-unread, module-read}
+use lib.ListN.{length}
+use mathlib.Core.Path.{refl, sym, _∙_}
 -- `desk::noolukask_module` meets its contract.
 use borrow.Author.Needs.{needs}
 use Rattle.desk.proofs.noolukask_module.Statement.{statement}
 use Rattle.desk.proofs.noolukask_module.Tie as tie
+
+unread-requires : tie.Need-unread-requires
+unread-requires c κs = search needs
 
 unread-code-requires : tie.Need-unread-code-requires
 unread-code-requires c κs = search needs
 
 returns : tie.Need-returns
 returns c =
-    let a = c .before .before .before .before .before .args in
-    module-unread _ _ _ (a .marks .now) _ (a .out .now) (unread-in (a .marks .now) (a .out .now) (c .before .if1 .taken)) (c .unread-code .ensures)
-
-unread-code-requires-2 : tie.Need-unread-code-requires-2
-unread-code-requires-2 c κs = search needs
-
-returns-2 : tie.Need-returns-2
-returns-2 c =
     let a = c .before .before .before .before .before .before .args in
-    module-unread _ _ _ (a .marks .now) _ (a .out .now) (unread-out (a .marks .now) (a .out .now) (c .before .if2 .taken)) (c .unread-code2 .ensures)
+    module-unread _ _ _ (a .marks .now) _ (a .out .now) (unread-both (a .marks .now) (a .out .now) (sym (c .before .before .unread .ensures) ∙ c .before .if1 .taken)) (c .unread-code .ensures)
 
 read-marks-requires : tie.Need-read-marks-requires
-read-marks-requires c κs = search needs
+read-marks-requires c κs = let a = c .before .before .before .before .before .args in read-both (length (a .marks .now)) (length (a .out .now)) (sym (c .before .unread .ensures) ∙ c .if1 .left) .0
 
 slice-aggregate-module-for : tie.Need-slice-aggregate-module-for
 slice-aggregate-module-for c = search needs
@@ -34,30 +30,30 @@ module-for-requires : tie.Need-module-for-requires
 module-for-requires c κs = search needs
 
 module-code-requires : tie.Need-module-code-requires
-module-code-requires c κs = search needs
+module-code-requires c κs = let a = c .before .before .before .before .before .before .before .before .before .before .before .before .args in (search needs, read-both (length (a .marks .now)) (length (a .out .now)) (sym (c .before .before .before .before .before .before .before .before .unread .ensures) ∙ c .before .before .before .before .before .before .before .if1 .left) .1)
 
 same-length : tie.Need-same-length
 same-length c = search needs
 
-returns-3 : tie.Need-returns-3
-returns-3 c =
+returns-2 : tie.Need-returns-2
+returns-2 c =
     let found = c .before .before .before .before .before .before .module-for .ensures in
     let words = c .before .before .before .before .before .before .before .before .before .read-marks .ensures in
     let code = c .before .before .module-code .ensures in
-    module-read _ _ _ _ _ _ _ (c .before .before .before .before .before .before .before .before .before .before .before .if1 .left) (c .before .before .before .before .before .before .before .before .before .before .if2 .left) refl (rw words at (found .0)) (rw words at (found .1)) (code .0) (code .1)
+    let lengths = read-both _ _ (sym (c .before .before .before .before .before .before .before .before .before .before .before .unread .ensures) ∙ c .before .before .before .before .before .before .before .before .before .before .if1 .left) in
+    module-read _ _ _ _ _ _ _ (lengths .0) (lengths .1) refl (rw words at (found .0)) (rw words at (found .1)) (code .0) (code .1)
 
 pub noolukask-module-spec : {M : Type 1} → statement M
 noolukask-module-spec =
     tie.close
     (tie.spec
+    unread-requires
     unread-code-requires
     returns
-    unread-code-requires-2
-    returns-2
     read-marks-requires
     slice-aggregate-module-for
     slice-aggregate-module-for-2
     module-for-requires
     module-code-requires
     same-length
-    returns-3)
+    returns-2)
