@@ -30,7 +30,22 @@ pub mod raw {
             marks: *const u8, marks_len: usize, a: u64, b: u64,
             sheet: *mut u8, sheet_len: usize,
         ) -> u64;
+        pub fn noolukask_module(
+            n: u64, m: u64, pack: *const u8, pack_len: usize,
+            marks: *const u8, marks_len: usize, a: u64,
+            out: *mut u8, out_len: usize,
+        ) -> u64;
+        pub fn noolukask_printed_set(
+            n: u64, m: u64, pack: *const u8, pack_len: usize,
+            marks: *const u8, marks_len: usize, a: u64, b: u64,
+            out: *mut u8, out_len: usize,
+        ) -> u64;
     }
+}
+
+/// Bytes for a buffer before a call, no two places near each other alike.
+pub fn filled(len: usize) -> Vec<u8> {
+    (0..len).map(|i| (i as u8).wrapping_mul(37) ^ (i >> 8) as u8 ^ 0x5A).collect()
 }
 
 const FENCE: u8 = 0xA5;
@@ -164,6 +179,50 @@ pub fn write_sheet_to_null(q: &Question) -> u64 {
         )
     };
     pack.assert_unchanged();
+    marks.assert_unchanged();
+    back
+}
+
+/// The module of `q.a`: what comes back, and what out marks that held `before` hold afterwards.
+pub fn module(q: &Question, before: &[u8]) -> (u64, Vec<u8>) {
+    let (pack, marks, mut out) = (Lent::new(&q.pack), Lent::new(&q.marks), Lent::new(before));
+    // SAFETY: as above; only the call writes to the out marks meanwhile.
+    let back = unsafe {
+        raw::noolukask_module(
+            q.n, q.m, pack.at(), pack.len(), marks.at(), marks.len(), q.a, out.at_mut(), out.len(),
+        )
+    };
+    pack.assert_unchanged();
+    marks.assert_unchanged();
+    (back, out.written().to_vec())
+}
+
+/// The printed set, in the same way.
+pub fn printed_set(q: &Question, before: &[u8]) -> (u64, Vec<u8>) {
+    let (pack, marks, mut out) = (Lent::new(&q.pack), Lent::new(&q.marks), Lent::new(before));
+    // SAFETY: as above.
+    let back = unsafe {
+        raw::noolukask_printed_set(
+            q.n, q.m, pack.at(), pack.len(), marks.at(), marks.len(), q.a, q.b,
+            out.at_mut(), out.len(),
+        )
+    };
+    pack.assert_unchanged();
+    marks.assert_unchanged();
+    (back, out.written().to_vec())
+}
+
+/// The two calls that give reasons, with NULL and length 0 for the pack and for the out marks.
+pub fn reasons_to_null(marks: &[u8]) -> [u64; 2] {
+    let (null, marks) = (std::ptr::null(), Lent::new(marks));
+    let none = std::ptr::null_mut();
+    // SAFETY: no byte is read or written where the length is 0.
+    let back = unsafe {
+        [
+            raw::noolukask_module(1, 0, null, 0, marks.at(), marks.len(), 0, none, 0),
+            raw::noolukask_printed_set(1, 0, null, 0, marks.at(), marks.len(), 0, 0, none, 0),
+        ]
+    };
     marks.assert_unchanged();
     back
 }

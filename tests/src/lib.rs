@@ -1,12 +1,15 @@
 //! The independent side of the tests, written from document 01 alone:
-//! rules, a clear checker of sheets, makers of packs and sheets, and the calls under test.
+//! rules, a clear checker of sheets, a reasoner, modules and printed sets, makers of packs and sheets, and
+//! the calls under test.
 
 pub mod calls;
 pub mod checker;
+pub mod compared;
 pub mod damage;
 pub mod derive;
 pub mod packs;
 pub mod reasoner;
+pub mod reasons;
 pub mod rng;
 pub mod rules;
 pub mod runs;

@@ -1,7 +1,7 @@
 //! Makers of packs, marks and sheets: the valve pack, small ones by hand, random ones.
 
 use crate::rng::Rng;
-use crate::rules::Question;
+use crate::rules::{marked, Question};
 
 /// Records from their first four bytes, statement number 0.
 pub fn pack(records: &[[u8; 4]]) -> Vec<u8> {
@@ -13,6 +13,11 @@ pub fn marks(places: impl IntoIterator<Item = usize>) -> Vec<u8> {
     let mut words = [0u64; 16];
     places.into_iter().for_each(|place| words[place / 64] |= 1 << (place % 64));
     rows(&words)
+}
+
+/// The places that are marked, ascending.
+pub fn places(marks: &[u8]) -> Vec<usize> {
+    (0..1024).filter(|&place| marked(marks, place)).collect()
 }
 
 /// Words as little-endian bytes: marks, or the rows of a no sheet.
@@ -103,6 +108,68 @@ pub fn random_question(rng: &mut Rng, n: usize, m: usize, count: usize) -> Quest
     let places: Vec<usize> = (0..count).filter(|_| rng.chance(share)).collect();
     let (a, b) = (rng.below(n) as u64, rng.below(n) as u64);
     Question { n: n as u64, m: m as u64, pack: bytes, marks: marks(places), a, b }
+}
+
+/// A record over all 64 concepts and 8 roles, its kind drawn from these.
+fn wide_record(rng: &mut Rng, kinds: &[u8]) -> [u8; 4] {
+    let kind = rng.pick(kinds);
+    let mut concept = || rng.below(64) as u8;
+    let [a, b, c] = [concept(), concept(), concept()];
+    match kind {
+        1 => [1, a, b, 0],
+        2 => [2, a, b, c],
+        3 => [3, a, b % 8, c],
+        4 => [4, a % 8, b, c],
+        5 => [5, a % 8, b % 8, 0],
+        _ => [6, a % 8, b % 8, c % 8],
+    }
+}
+
+/// Records that fill every link and leave the concepts to others: all things under one concept, which is
+/// under some r Y for all r and Y.
+fn filling(rng: &mut Rng) -> Vec<[u8; 4]> {
+    let top = rng.below(64) as u8;
+    let mut records: Vec<[u8; 4]> = (0..64).filter(|&x| x != top).map(|x| [1, x, top, 0]).collect();
+    records.extend((0..8).flat_map(|r| (0..64).map(move |y| [3, top, r, y])));
+    records
+}
+
+/// A question of n = 64 and m = 8: mostly sparse packs; long ones with few chains; long ones without
+/// links; full tables with few chains; and names from a few, as in small packs.
+pub fn large_question(rng: &mut Rng, shape: u64) -> Question {
+    let mut records: Vec<[u8; 4]> = Vec::new();
+    let mut more = |rng: &mut Rng, count: usize, kinds: &[u8]| {
+        (0..count).for_each(|_| records.push(wide_record(rng, kinds)));
+    };
+    match shape % 20 {
+        0..=12 => {
+            let count = rng.below(170);
+            more(rng, count, &[1, 1, 2, 3, 3, 4, 5, 6]);
+        }
+        13 => {
+            more(rng, 1018, &[1, 2, 3, 3, 3, 4]);
+            more(rng, 6, &[5, 6]);
+        }
+        14 | 15 => {
+            let count = rng.between(100, 1024);
+            more(rng, count, &[1, 2, 2, 2]);
+        }
+        16 => {
+            let count = rng.below(12);
+            more(rng, count, &[1, 2, 4, 6]);
+            records.extend(filling(rng));
+        }
+        _ => {
+            let count = rng.below(120);
+            return random_question(rng, 64, 8, count);
+        }
+    }
+    rng.shuffle(&mut records);
+    let mut q = question(64, 8, &records, rng.below(64) as u64, rng.below(64) as u64);
+    if rng.chance(30) {
+        q.marks = marks((0..records.len()).filter(|_| rng.chance(80)));
+    }
+    q
 }
 
 #[cfg(test)]

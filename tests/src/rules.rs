@@ -11,6 +11,11 @@ pub struct Question {
     pub b: u64,
 }
 
+/// The whole question in words, for a test that fails.
+pub fn show(q: &Question) -> String {
+    format!("n {} m {} goal ({},{})\npack {:02x?}\nmarks {:02x?}", q.n, q.m, q.a, q.b, q.pack, q.marks)
+}
+
 /// A number of the table, and the place, step or row that it gives (0 where it gives none).
 #[derive(Clone, Copy, PartialEq, Eq, Debug)]
 pub struct Refused {
@@ -22,6 +27,7 @@ pub const SIZES: Refused = Refused { number: 1, place: 0 };
 pub const PACK: Refused = Refused { number: 2, place: 0 };
 pub const MARKS: Refused = Refused { number: 4, place: 0 };
 pub const GOAL: Refused = Refused { number: 5, place: 0 };
+pub const NOT_FOLLOWS: Refused = Refused { number: 7, place: 0 };
 pub const LENGTH: Refused = Refused { number: 9, place: 0 };
 pub const NOT_SHOWN: Refused = Refused { number: 13, place: 0 };
 

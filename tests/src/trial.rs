@@ -71,8 +71,14 @@ impl Trial {
 /// Two threads, one seed each, until both have reached half of the sheets.
 pub fn on_two_threads(sheets: u64, run: fn(seed: u64, sheets: u64) -> Trial) -> Trial {
     let half = (sheets + 1) / 2;
+    let (one, other) = two_threads(1, move |seed| run(seed, half));
+    one.join(other)
+}
+
+/// What one run gives with this seed and another with the next, side by side.
+pub fn two_threads<T: Send>(seed: u64, run: impl Fn(u64) -> T + Sync) -> (T, T) {
     std::thread::scope(|scope| {
-        let other = scope.spawn(move || run(2, half));
-        run(1, half).join(other.join().expect("the other thread's sheets"))
+        let other = scope.spawn(|| run(seed + 1));
+        (run(seed), other.join().expect("what the other thread found"))
     })
 }

@@ -1,10 +1,12 @@
 //! The verdict and the sheet writer against the independent reasoner: the numbers that come back, every
 //! byte of every buffer, and what both sheet checks say to the sheets.
 
+use noolukask_tests::calls::filled;
 use noolukask_tests::packs::{self, marks, question, rows, steps, VALVE};
 use noolukask_tests::reasoner::{self, Answer, Fact, Passes};
 use noolukask_tests::rng::Rng;
-use noolukask_tests::rules::{self, desk_code, sheet_code, Question};
+use noolukask_tests::rules::{self, desk_code, sheet_code, show, Question};
+use noolukask_tests::trial::two_threads;
 use noolukask_tests::{calls, checker, damage, runs};
 
 const SMALL_PACKS: u64 = 100_000;
@@ -30,15 +32,6 @@ fn verdict(follows: bool) -> u64 {
 /// The sheet writer's number: the count is of steps or of rows.
 fn written(follows: bool, count: usize) -> u64 {
     256 * (2 * count as u64 + u64::from(follows))
-}
-
-/// Bytes for a buffer before the call, no two places near each other alike.
-fn filled(len: usize) -> Vec<u8> {
-    (0..len).map(|i| (i as u8).wrapping_mul(37) ^ (i >> 8) as u8 ^ 0x5A).collect()
-}
-
-fn show(q: &Question) -> String {
-    format!("n {} m {} goal ({},{})\npack {:02x?}\nmarks {:02x?}", q.n, q.m, q.a, q.b, q.pack, q.marks)
 }
 
 /// Both calls on a good question: the verdict; the writer with a buffer that fits, longer ones, one of a byte
@@ -176,26 +169,8 @@ fn on_two_threads(packs: u64, seed: u64, one: fn(&mut Rng, u64, &mut Counts)) ->
         }
         counts
     };
-    std::thread::scope(|scope| {
-        let other = scope.spawn(move || run(seed + 1));
-        run(seed).join(other.join().expect("the other thread's packs"))
-    })
-}
-
-/// Half of the time a goal that some pass added, so that both verdicts come often.
-fn draw_goal(rng: &mut Rng, q: &mut Question, run: &Passes) {
-    let shown: Vec<(u8, u8)> = run
-        .added
-        .iter()
-        .filter_map(|&(_, fact)| match fact {
-            Fact::In(x, b) => Some((x, b)),
-            Fact::Link(..) => None,
-        })
-        .collect();
-    if !shown.is_empty() && rng.chance(50) {
-        let (a, b) = rng.pick(&shown);
-        (q.a, q.b) = (a.into(), b.into());
-    }
+    let (one, other) = two_threads(seed, run);
+    one.join(other)
 }
 
 /// The question with faults, through both calls.
@@ -215,7 +190,7 @@ fn a_hundred_thousand_small_packs() {
         let (n, m, count) = (rng.between(1, 6), rng.between(0, 3), rng.below(13));
         let mut q = packs::random_question(rng, n, m, count);
         let run = reasoner::passes(&q);
-        draw_goal(rng, &mut q, &run);
+        run.draw_goal(rng, &mut q);
         let ours = settle(&q, &run, rng.below(40), rng.below(1000));
         counts.answered(&run, &ours);
         let closed = reasoner::closure(&q);
@@ -242,74 +217,12 @@ fn a_hundred_thousand_small_packs() {
     assert!(counts.refused[1..].iter().all(|&times| times > 500));
 }
 
-/// A record over all 64 concepts and 8 roles, its kind drawn from these.
-fn wide_record(rng: &mut Rng, kinds: &[u8]) -> [u8; 4] {
-    let kind = rng.pick(kinds);
-    let mut concept = || rng.below(64) as u8;
-    let [a, b, c] = [concept(), concept(), concept()];
-    match kind {
-        1 => [1, a, b, 0],
-        2 => [2, a, b, c],
-        3 => [3, a, b % 8, c],
-        4 => [4, a % 8, b, c],
-        5 => [5, a % 8, b % 8, 0],
-        _ => [6, a % 8, b % 8, c % 8],
-    }
-}
-
-/// Records that fill every link and leave the concepts to others: all things under one concept, which is
-/// under some r Y for all r and Y.
-fn filling(rng: &mut Rng) -> Vec<[u8; 4]> {
-    let top = rng.below(64) as u8;
-    let mut records: Vec<[u8; 4]> = (0..64).filter(|&x| x != top).map(|x| [1, x, top, 0]).collect();
-    records.extend((0..8).flat_map(|r| (0..64).map(move |y| [3, top, r, y])));
-    records
-}
-
-/// A question of n = 64 and m = 8: mostly sparse packs; long ones with few chains; long ones without
-/// links; full tables with few chains; and names from a few, as in small packs.
-fn large_question(rng: &mut Rng, shape: u64) -> Question {
-    let mut records: Vec<[u8; 4]> = Vec::new();
-    let mut more = |rng: &mut Rng, count: usize, kinds: &[u8]| {
-        (0..count).for_each(|_| records.push(wide_record(rng, kinds)));
-    };
-    match shape % 20 {
-        0..=12 => {
-            let count = rng.below(170);
-            more(rng, count, &[1, 1, 2, 3, 3, 4, 5, 6]);
-        }
-        13 => {
-            more(rng, 1018, &[1, 2, 3, 3, 3, 4]);
-            more(rng, 6, &[5, 6]);
-        }
-        14 | 15 => {
-            let count = rng.between(100, 1024);
-            more(rng, count, &[1, 2, 2, 2]);
-        }
-        16 => {
-            let count = rng.below(12);
-            more(rng, count, &[1, 2, 4, 6]);
-            records.extend(filling(rng));
-        }
-        _ => {
-            let count = rng.below(120);
-            return packs::random_question(rng, 64, 8, count);
-        }
-    }
-    rng.shuffle(&mut records);
-    let mut q = question(64, 8, &records, rng.below(64) as u64, rng.below(64) as u64);
-    if rng.chance(30) {
-        q.marks = marks((0..records.len()).filter(|_| rng.chance(80)));
-    }
-    q
-}
-
 #[test]
 fn two_thousand_large_packs() {
     let counts = on_two_threads(LARGE_PACKS, 43, |rng, i, counts| {
-        let mut q = large_question(rng, i);
+        let mut q = packs::large_question(rng, i);
         let run = reasoner::passes(&q);
-        draw_goal(rng, &mut q, &run);
+        run.draw_goal(rng, &mut q);
         let ours = settle(&q, &run, rng.below(5000), rng.below(300_000));
         counts.answered(&run, &ours);
         if i % 21 == 0 {
