@@ -198,3 +198,45 @@ pub fn chains_on_full(rng: &mut Rng) -> Question {
     records.extend((0..CHAINS).map(|_| record(6, rng.below(8), rng.below(8), rng.below(8))));
     packs::question(64, 8, &records, 1, 0)
 }
+
+/// 1,024 mixed records: 30 that lead from concept 0 to concept 30, a step each, in places of their own, and
+/// others that lead no further up: into a concept of 31 and above, or from such a one into another.
+pub fn long_reason(rng: &mut Rng) -> Question {
+    let mut records: Vec<[u8; 4]> = (0..30).map(|i| [1, i, i + 1, 0]).collect();
+    while records.len() < RECORDS {
+        let drawn = record(rng.between(1, 6), rng.below(64), rng.below(64), rng.below(64));
+        let gained = match drawn[0] {
+            1 => drawn[2],
+            2 | 4 => drawn[3],
+            _ => 63,
+        };
+        if gained > 30 {
+            records.push(drawn);
+        }
+    }
+    rng.shuffle(&mut records);
+    packs::question(64, 8, &records, 0, 30)
+}
+
+/// 120 records in the manner of SNOMED CT, roles 0 site and 1 part of, with "site then part of under site":
+/// 20 body parts, each part of another down to the heart (0); 20 procedures, each with the site of a body part;
+/// for each body part the procedures on it, under those of what it is part of by the parts alone; and names for
+/// some of both. The goal: the last procedure is a procedure on the heart.
+pub fn terminology(rng: &mut Rng) -> Question {
+    let (part, procedure, on) = (|i: usize| i as u8, |i: usize| 20 + i as u8, |i: usize| 40 + i as u8);
+    let mut records: Vec<[u8; 4]> = vec![[6, 0, 1, 0], [6, 1, 1, 1]];
+    records.extend((1..20).map(|i| [3, part(i), 1, part(i - 1 - rng.below(i.min(3)))]));
+    records.extend((0..20).map(|i| [3, procedure(i), 0, part(i)]));
+    records.extend((0..20).map(|i| [4, 0, part(i), on(i)]));
+    while records.len() < 120 {
+        let (i, j) = (rng.between(1, 19), rng.below(20));
+        records.push(match rng.below(4) {
+            0 => [1, procedure(i), procedure(rng.below(i)), 0],
+            1 => [1, on(i), on(j), 0],
+            2 => [2, procedure(i), on(j), on(rng.below(20))],
+            _ => [3, procedure(i), 0, part(j)],
+        });
+    }
+    rng.shuffle(&mut records);
+    packs::question(64, 2, &records, u64::from(procedure(19)), u64::from(on(0)))
+}

@@ -5,9 +5,11 @@
 mod engine;
 mod fast;
 mod inputs;
+mod reasons;
 
 use engine::Engine;
 use noolukask_tests::calls::raw;
+use noolukask_tests::packs;
 use noolukask_tests::rng::Rng;
 use noolukask_tests::rules::Question;
 use noolukask_tests::runs;
@@ -53,6 +55,26 @@ fn ours_write(q: &Question, sheet: &mut [u8]) -> u64 {
         raw::noolukask_write_sheet(
             q.n, q.m, q.pack.as_ptr(), q.pack.len(), q.marks.as_ptr(), q.marks.len(), q.a, q.b,
             sheet.as_mut_ptr(), sheet.len(),
+        )
+    }
+}
+
+fn ours_module(q: &Question, out: &mut [u8]) -> u64 {
+    // SAFETY: as above; only the call writes to the marks out meanwhile.
+    unsafe {
+        raw::noolukask_module(
+            q.n, q.m, q.pack.as_ptr(), q.pack.len(), q.marks.as_ptr(), q.marks.len(), q.a,
+            out.as_mut_ptr(), out.len(),
+        )
+    }
+}
+
+fn ours_set(q: &Question, out: &mut [u8]) -> u64 {
+    // SAFETY: as above.
+    unsafe {
+        raw::noolukask_printed_set(
+            q.n, q.m, q.pack.as_ptr(), q.pack.len(), q.marks.as_ptr(), q.marks.len(), q.a, q.b,
+            out.as_mut_ptr(), out.len(),
         )
     }
 }
@@ -130,6 +152,33 @@ fn measure_engines(rng: &mut Rng) {
     measure_engine("no sheet, 1,024 mixed records", true, inputs::open_pack(rng), 200);
 }
 
+/// The set call against deletion record by record: with the Rust engine, and with our own verdict call.
+fn measure_set(what: &str, q: Question, turns: u32) {
+    let with_rust: Call = |q, out| reasons::put(&reasons::set_with_rust(q), out);
+    let with_verdicts: Call = |q, out| reasons::put(&reasons::set_with_verdicts(q), out);
+    let mut out = vec![0; 128];
+    let expected = with_rust(&q, &mut out);
+    let (found, asked) = reasons::halving(&q);
+    assert!(packs::rows(&found) == out, "{what}: halving finds another set");
+    let (kept, marked) = ((expected / 256) as f64, q.pack.len() as f64 / 8.0);
+    let most = (kept + 1.0) * (marked.log2() + 2.0);
+    println!("{what}: {kept} kept; {asked} completions by halving, at most {most:.0} wanted, {marked} by deletion");
+    measure(&format!("{what}, deletion in Rust"), ours_set, with_rust, (q.clone(), vec![0; 128]), expected, turns);
+    measure(&format!("{what}, deletion with our verdict"), ours_set, with_verdicts, (q, vec![0; 128]), expected, turns);
+}
+
+fn measure_reasons(rng: &mut Rng) {
+    let rust_module: Call = |q, out| reasons::put(&reasons::module(q), out);
+    let q = inputs::open_pack(rng);
+    let expected = rust_module(&q, &mut vec![0; 128]);
+    measure("module, 1,024 mixed records", ours_module, rust_module, (q, vec![0; 128]), expected, 500);
+    let q = Question { a: 63, b: 0, ..runs::reverse(64) };
+    let expected = rust_module(&q, &mut vec![0; 128]);
+    measure("module, 63 records in reverse", ours_module, rust_module, (q, vec![0; 128]), expected, 500);
+    measure_set("set, 1,024 mixed records", inputs::long_reason(rng), 3);
+    measure_set("set, 120 records of a terminology", inputs::terminology(rng), 20);
+}
+
 fn main() {
     let emulated = std::env::args().nth(1).as_deref() == Some("emulated");
     let mut rng = Rng::new(36);
@@ -142,4 +191,5 @@ fn main() {
     println!("{:<72} {:>10} {:>10} {:>6}", "what", "ours (ns)", "Rust (ns)", ratio);
     measure_checks(&mut rng);
     measure_engines(&mut rng);
+    measure_reasons(&mut rng);
 }
