@@ -19,7 +19,7 @@ use Rattle.pack.proofs.QuestionLaws.{Asked, asked}
 use Rattle.pack.proofs.RecordLaws.{lines-length}
 use Rattle.engine.proofs.VerdictLaws.{valid}
 use Rattle.reasons.specs.Reach.{Name, leftNames, allIn, IsReached, moduleIn, IsModule, reached, moduleOf}
-use Rattle.reasons.specs.Names.{Taken}
+use Rattle.reasons.specs.Names.{TakenOf}
 use Rattle.reasons.specs.OutMarks.{marksOf, checkReason}
 use Rattle.reasons.specs.Module.{moduleMarks, marksAnswer, askModule, writtenModule}
 use Rattle.reasons.proofs.OutLaws.{marks-length, marked-of, marked-past, marks-alike, both-asked}
@@ -46,12 +46,12 @@ line-most n m h g (ChainUnder r s t) v = (omega arith, omega arith, omega arith)
 line-most n m h g NoLine v = v
 
 -- of a question about a that is taken
-module _ (n m : ℕ) (s ws : List ℕ) (a : ℕ) (taken : Taken n m s ws a) where
-  pub question : Asked n m s ws a (taken .0) (taken .1)
-  question = asked n m s ws a (taken .0) (taken .2)
+module _ (n m : ℕ) (s ws : List ℕ) (a : ℕ) (taken : TakenOf n m s ws a) where
+  pub question : Asked n m s ws a (taken .0) (taken .1 .0)
+  question = asked n m s ws a (taken .0) (taken .1 .1)
 
   lines-right : Valid n m (linesOf s)
-  lines-right = valid n m s ws a (taken .0) (taken .2)
+  lines-right = valid n m s ws a (taken .0) (taken .1 .1)
 
   pub lines-most : Valid 64 8 (linesOf s)
   lines-most i h = line-most n m (question .pack .n-most) (question .pack .m-most) (lineAt (linesOf s) i) (lines-right i h)
@@ -134,7 +134,7 @@ module _ (n m : ℕ) (s ws : List ℕ) (a : ℕ) (out : List ℕ) where
   module-right {k} e =
       let c = module-counted e in
       let t = module-taken (c .1) in
-      let taken : Taken n m s ws a = (a, c .0, both-asked n m s ws a a out (c .1)) in
+      let taken : TakenOf n m s ws a = (a, (c .0, both-asked n m s ws a a out (c .1))) in
       let same : k ≡ markCount (moduleMarks n m s ws a) = cc in
       rw (t .1)
       (record {

@@ -2,10 +2,10 @@
 use mathlib.Core.Path.{_≡_, refl, sym, ap, _∙_}
 use mathlib.Core.Bool.{Bool, true, false}
 use mathlib.Core.List.{List}
-use Prim.Native.Nat.{ℕ, zero, suc, _+_, _*_, _≤_, _<_}
+use Prim.Native.Nat.{ℕ, zero, suc, _+_, _≤_, _<_}
 use native.Mathlib.Decide.{decLt}
 use native.Mathlib.Omega.{arith}
-use lib.ListN.{length, getD}
+use lib.ListN.{length}
 use Rattle.bits.proofs.Truth.{and-true, never}
 use Rattle.pack.specs.Marks.{marked, counted}
 use Rattle.pack.specs.Question.{Taken}
@@ -13,7 +13,6 @@ use Rattle.pack.specs.Record.{linesOf}
 use Rattle.pack.specs.World.{Follows, lineAt}
 use Rattle.pack.proofs.RecordLaws.{lines-length}
 use Rattle.passes.specs.Passes.{verdict}
-use Rattle.passes.proofs.RowLaws.{row-lt}
 use Rattle.engine.proofs.VerdictLaws.{question, valid}
 use Rattle.reasons.specs.Printed.{IsPicked, IsPrinted, without, spared, picked, printed}
 use Rattle.reasons.specs.Reach.{IsModule, allIn, leftNames, reached, moduleOf, moduleIn}
@@ -24,7 +23,7 @@ use Rattle.reasons.specs.Set.{setWords, setAfter, setLeft, askSet, writt
 use Rattle.engine.specs.Verdict.{askVerdict}
 use Rattle.pack.specs.declared.check.Checked.the-variants as checked
 use Rattle.pack.specs.declared.check.Refusal.{Refusal}
-use Rattle.reasons.proofs.OutLaws.{both-taken, marks-length, marks-word, marked-of, marked-past, marks-same}
+use Rattle.reasons.proofs.OutLaws.{marks-length, marked-of, marked-past, marks-alike, both-taken}
 use Rattle.reasons.proofs.PickLaws.{without-true}
 use Rattle.reasons.proofs.PrintedLaws.{printed-is, printed-one}
 use Rattle.reasons.proofs.ReachLaws.{module-is}
@@ -32,13 +31,9 @@ use Rattle.reasons.proofs.InsideLaws.{module-follows, inside-printed}
 use Rattle.reasons.proofs.HalveLaws.{cut-gone, cut-fewer, cut-marked}
 use Rattle.reasons.proofs.AskLaws.{taken-sixteen, lines-most, fewer-taken}
 
--- words by the places that they mark
-pub marks-ext : (P Q : ℕ → Bool) → ((i : ℕ) → i < 1024 → P i ≡ Q i) → marksOf P ≡ marksOf Q
-marks-ext P Q h =
-    marks-same Q (marksOf P) (marks-length P) (λ j l. rw (marks-word P j l) (row-lt 64 (λ i. P (j * 64 + i)))) (λ i l. marked-of P i l ∙ h i l)
-
+-- words that mark a set of places mark what they mark
 pub marks-again : (P : ℕ → Bool) (ws : List ℕ) → ws ≡ marksOf P → ws ≡ marksOf (marked ws)
-marks-again P ws e = e ∙ marks-ext P (marked ws) (λ i l. sym (marked-of P i l) ∙ sym (ap (λ (v : List ℕ). marked v i) e))
+marks-again P ws e = e ∙ marks-alike P (marked ws) (λ i l. sym (marked-of P i l) ∙ sym (ap (λ (v : List ℕ). marked v i) e))
 
 -- deletion only takes away
 module _ (D : (ℕ → Bool) → Bool) where
@@ -69,7 +64,7 @@ module _ (n m : ℕ) (s ws : List ℕ) (a b : ℕ) (t : Taken n m s ws a b) (f :
 
   -- WORDS THAT MARK A PRINTED SET are the words of the printed set
   pub set-words : (r : List ℕ) → r ≡ marksOf (marked r) → ((i : ℕ) → marked r i ≡ true → counted s ws i ≡ true) → IsPrinted (linesOf s) (counted s ws) a b (marked r) → r ≡ setWords n m s ws a b
-  set-words r e fewer p = e ∙ marks-ext (marked r) (printed (linesOf s) (counted s ws) n m a b) (λ i _. go i (decLt i (length (linesOf s))))
+  set-words r e fewer p = e ∙ marks-alike (marked r) (printed (linesOf s) (counted s ws) n m a b) (λ i _. go i (decLt i (length (linesOf s))))
     where
       go : (i : ℕ) → Dec (i < length (linesOf s)) → marked r i ≡ printed (linesOf s) (counted s ws) n m a b i
       go i (yes l) =

@@ -5,9 +5,8 @@ use mathlib.Core.List.{List, [], _∷_}
 use Prim.Native.Nat.{ℕ, _<_}
 use lib.ListN.{length}
 use Rattle.bits.specs.Bit.{has, withBit}
-use Rattle.pack.specs.declared.check.Checked.the-variants.{Count}
 use Rattle.pack.specs.declared.line.Line.{Line}
-use Rattle.pack.specs.Question.{checkQuestion}
+use Rattle.pack.specs.Question.{Taken}
 use Rattle.pack.specs.World.{lineAt}
 use Rattle.reasons.specs.declared.reach.Names.{Names}
 use Rattle.reasons.specs.Reach.{Name, concept, role, leftNames, rightNames, allIn, Reaches}
@@ -40,6 +39,6 @@ pub record Passed (ls : List Line) (S : ℕ → Bool) (k : ℕ) (R R′ : Name �
   pub least : (a : ℕ) (Q : Name → Bool) → Reaches ls S a Q → Inside R Q → Inside R′ Q
   pub goes : (i : ℕ) → i < k → i < length ls → S i ≡ true → allIn R (leftNames (lineAt ls i)) ≡ true → allIn R′ (rightNames (lineAt ls i)) ≡ true
 
--- a question about a is taken
-abbrev pub Taken : ℕ → ℕ → List ℕ → List ℕ → ℕ → Type 0
-Taken n m s ws a = (b : ℕ) × (count : ℕ) × (checkQuestion n m s ws a b ≡ Count count)
+-- a question about a, with some b, is taken
+abbrev pub TakenOf : ℕ → ℕ → List ℕ → List ℕ → ℕ → Type 0
+TakenOf n m s ws a = (b : ℕ) × Taken n m s ws a b

@@ -8,7 +8,7 @@ ghost use Rattle.pack.specs.Marks.{counted, markCount};
 ghost use Rattle.pack.specs.Record.{linesOf, Valid};
 ghost use Rattle.reasons.specs.Reach.{moduleIn};
 ghost use Rattle.reasons.specs.OutMarks.{marksOf};
-ghost use Rattle.reasons.specs.Names.{nameIn, Taken};
+ghost use Rattle.reasons.specs.Names.{nameIn, TakenOf};
 ghost use Rattle.reasons.specs.Module.{moduleMarks, askModule, writtenModule};
 use crate::out::check_reason;
 use crate::out::put_marks;
@@ -49,7 +49,7 @@ fn mark_reached<'a>(pack: &'a [u8], marks: &'a [u64], names: Names) -> [u64; 16]
 
 // The marks of the module for concept a of a question that is taken.
 pub fn module_of<'a>(n: usize, m: usize, pack: &'a [u8], marks: &'a [u64], a: usize) -> [u64; 16]
-    requires { ⌜ Taken n m (now pack) (now marks) a ⌝ }
+    requires { ⌜ TakenOf n m (now pack) (now marks) a ⌝ }
     ensures { λ r. ⌜ r ≡ moduleMarks n m (now (pack .entry)) (now (marks .entry)) a ⌝ }
 {
     let names = reach_names(pack, marks, a as u8);
@@ -65,7 +65,7 @@ fn put_module<'a>(
     a: usize,
     out: &mut [u64],
 ) -> Checked
-    requires { ⌜ Taken n m (now pack) (now marks) a × (length (now out) ≡ 16) ⌝ }
+    requires { ⌜ TakenOf n m (now pack) (now marks) a × (length (now out) ≡ 16) ⌝ }
     ensures { λ r. ⌜ (r ≡ Checked.Count (markCount (moduleMarks n m (now (pack .entry)) (now (marks .entry)) a))) × (now (out .exit) ≡ moduleMarks n m (now (pack .entry)) (now (marks .entry)) a) ⌝ }
 {
     let words = module_of(n, m, pack, marks, a);

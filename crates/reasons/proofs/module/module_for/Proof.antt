@@ -19,7 +19,7 @@ put-module-requires : tie.Need-put-module-requires
 put-module-requires c κs =
     let a = c .before .before .before .before .before .before .before .args in
     let h = sym (c .before .before .before .check-reason .ensures) ∙ c .before .enum-told .given .1 in
-    ((a .a, _, both-asked _ _ _ _ _ _ (a .out .now) h), both-taken _ _ _ (a .marks .now) _ _ (a .out .now) h .0)
+    ((a .a, (_, both-asked _ _ _ _ _ _ (a .out .now) h)), both-taken _ _ _ (a .marks .now) _ _ (a .out .now) h .0)
 
 returns : tie.Need-returns
 returns c =

@@ -12,7 +12,7 @@ returns : tie.Need-returns
 returns c = let pre = c .before .before .before .before .pre in same-words _ _ _ _ _ _ (pre .0) (pre .1) (c .before .if1 .taken) _ (c .cut-marks .ensures)
 
 module-of-requires : tie.Need-module-of-requires
-module-of-requires c κs = search needs
+module-of-requires c κs = (_, c .before .before .before .pre .0)
 
 pick-requires : tie.Need-pick-requires
 pick-requires c κs =
