@@ -188,6 +188,8 @@ fn c2_and_c6() {
         no(&packs::valve(2, 1), &sheet)
     };
     assert_eq!(changed(12, 0), broken_at(1));
+    // A link to thing 5, which is not there.
+    assert_eq!(changed(12, 0x28), row_at(12));
     assert_eq!(changed(5, 0x04), broken_at(2));
     assert_eq!(changed(0, 0x11), broken_at(3));
     assert_eq!(changed(4, 0x10), broken_at(5));

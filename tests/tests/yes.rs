@@ -157,6 +157,9 @@ fn c3_and_c11() {
     assert_eq!(yes(&q, &sheet[8..]), step_at(1));
     assert_eq!(yes(&q, &sheet[..24]), NOT_SHOWN);
     assert_eq!(yes(&q, &sheet[..31]), LENGTH);
+    // X of step 2 changed; and, every step good, another goal.
+    assert_eq!(yes(&q, &[&sheet[..18], &[1], &sheet[19..]].concat()), step_at(2));
+    assert_eq!(yes(&packs::valve(2, 1), &sheet), NOT_SHOWN);
     // Only the first step is good: a check that reads no further would be content.
     assert_eq!(yes(&q, &[&sheet[..8], &sheet[24..]].concat()), step_at(1));
     // The two steps by way of the open chest repair show it as well.
