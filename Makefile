@@ -1,4 +1,4 @@
-# make test: the whole gate. make run: the desk on the valve pack. make speed: the measurements.
+# make test: the whole gate. make run: the bench program and the desk on the valve pack. make speed: the measurements.
 
 SHELL = bash
 LIBRARIES = sheets desk
@@ -14,8 +14,9 @@ PLATFORM = . tools/platform
 test:
 	@tools/gate
 
-run: build/desk
-	@$(PLATFORM) && $$RUN build/desk
+run: target/bin/bench build/desk
+	@$(PLATFORM) && echo "the bench program on the valve pack:" && $$RUN target/bin/bench <crates/bench/stdin && \
+		echo "the editors' desk on the valve pack:" && $$RUN build/desk
 
 speed: $(ARCHIVES)
 	@$(PLATFORM) && cd speed && "$$CARGO" run --quiet --offline --release -- $$EMULATED
@@ -26,6 +27,9 @@ build/desk: examples/desk.c examples/guarded.h include/noolukask.h $(ARCHIVES)
 
 target/staticlib/lib%.a: $(SOURCES)
 	rt staticlib $*
+
+target/bin/bench: $(SOURCES)
+	rt check bench
 
 clean:
 	rm -rf target build tests/target speed/target
