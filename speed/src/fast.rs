@@ -40,8 +40,8 @@ pub fn check_pack(n: u64, m: u64, pack: &[u8]) -> u64 {
     256 * (pack.len() / 8) as u64
 }
 
-/// The record count and the mark words, or what a sheet call returns for numbers 1 to 5.
-pub fn question(q: &Question) -> Result<(usize, [u64; 16]), u64> {
+/// The record count and the mark words, or what a sheet call returns for numbers 1 to 4.
+pub fn marked(q: &Question) -> Result<(usize, [u64; 16]), u64> {
     let back = check_pack(q.n, q.m, &q.pack);
     match back & 255 {
         0 => (),
@@ -58,10 +58,16 @@ pub fn question(q: &Question) -> Result<(usize, [u64; 16]), u64> {
             return Err(4);
         }
     }
+    Ok((count, marks))
+}
+
+/// The same for numbers 1 to 5.
+pub fn question(q: &Question) -> Result<(usize, [u64; 16]), u64> {
+    let found = marked(q)?;
     if q.a >= q.n || q.b >= q.n {
         return Err(5);
     }
-    Ok((count, marks))
+    Ok(found)
 }
 
 pub fn bit(row: u64, index: usize) -> bool {

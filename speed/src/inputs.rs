@@ -199,44 +199,66 @@ pub fn chains_on_full(rng: &mut Rng) -> Question {
     packs::question(64, 8, &records, 1, 0)
 }
 
-/// 1,024 mixed records: 30 that lead from concept 0 to concept 30, a step each, in places of their own, and
-/// others that lead no further up: into a concept of 31 and above, or from such a one into another.
-pub fn long_reason(rng: &mut Rng) -> Question {
-    let mut records: Vec<[u8; 4]> = (0..30).map(|i| [1, i, i + 1, 0]).collect();
+/// Stages of the next pack: three concepts each, and the last one the rest.
+const STAGES: usize = 17;
+
+fn stage(concept: usize) -> usize {
+    (concept / 3).min(STAGES - 1)
+}
+
+/// 1,024 records of all kinds, every one marked, whose printed set is about 30 of them: the goal leads from the
+/// first stage to the last. From a stage to the next there are three ways, of one sort; every other record
+/// leads from concepts of a stage to concepts of the same or of earlier ones.
+pub fn staged_pack(rng: &mut Rng) -> Question {
+    let mut records: Vec<[u8; 4]> = Vec::new();
+    for (from, to) in (0..STAGES - 1).map(|stage| (3 * stage, 3 * stage + 3)) {
+        for _ in 0..3 {
+            let role = rng.below(8);
+            match stage(from) % 3 {
+                0 => records.push(record(1, from, to, 0)),
+                1 => records.extend([record(1, from, from + 1, 0), record(2, from, from + 1, to)]),
+                _ => records.extend([record(3, from, role, from + 2), record(4, role, from + 2, to)]),
+            }
+        }
+    }
     while records.len() < RECORDS {
-        let drawn = record(rng.between(1, 6), rng.below(64), rng.below(64), rng.below(64));
-        let gained = match drawn[0] {
-            1 => drawn[2],
-            2 | 4 => drawn[3],
-            _ => 63,
+        let [kind, a, b, c] = [rng.between(1, 6), rng.below(64), rng.below(64), rng.below(64)];
+        let back = match kind {
+            1 => stage(b) <= stage(a),
+            2 => stage(c) <= stage(a).max(stage(b)),
+            3 => stage(c) <= stage(a),
+            4 => stage(c) <= stage(b),
+            _ => true,
         };
-        if gained > 30 {
-            records.push(drawn);
+        if back {
+            records.push(record(kind, a, b, c));
         }
     }
     rng.shuffle(&mut records);
-    packs::question(64, 8, &records, 0, 30)
+    packs::question(64, 8, &records, 0, 3 * (STAGES as u64 - 1))
 }
 
-/// 120 records in the manner of SNOMED CT, roles 0 site and 1 part of, with "site then part of under site":
-/// 20 body parts, each part of another down to the heart (0); 20 procedures, each with the site of a body part;
-/// for each body part the procedures on it, under those of what it is part of by the parts alone; and names for
-/// some of both. The goal: the last procedure is a procedure on the heart.
-pub fn terminology(rng: &mut Rng) -> Question {
-    let (part, procedure, on) = (|i: usize| i as u8, |i: usize| 20 + i as u8, |i: usize| 40 + i as u8);
-    let mut records: Vec<[u8; 4]> = vec![[6, 0, 1, 0], [6, 1, 1, 1]];
-    records.extend((1..20).map(|i| [3, part(i), 1, part(i - 1 - rng.below(i.min(3)))]));
-    records.extend((0..20).map(|i| [3, procedure(i), 0, part(i)]));
-    records.extend((0..20).map(|i| [4, 0, part(i), on(i)]));
-    while records.len() < 120 {
-        let (i, j) = (rng.between(1, 19), rng.below(20));
-        records.push(match rng.below(4) {
-            0 => [1, procedure(i), procedure(rng.below(i)), 0],
-            1 => [1, on(i), on(j), 0],
-            2 => [2, procedure(i), on(j), on(rng.below(20))],
-            _ => [3, procedure(i), 0, part(j)],
-        });
+/// 120 records such as SNOMED CT has, every one marked: 20 body structures, each but the first part of another;
+/// a disease of each, defined by it ("disease and some site structure"); part-of is transitive, and a site
+/// is inherited along it. The goal: a disease of the last structure is one of the first.
+pub fn snomed_pack(rng: &mut Rng) -> Question {
+    const STRUCTURES: usize = 20;
+    let (part_of, site, exact_site) = (0, 1, 2);
+    let (structure, disease) = (60, 61);
+    let (disease_of, at) = (|of: usize| 20 + of, |of: usize| 40 + of);
+    let mut records = vec![
+        record(6, part_of, part_of, part_of),
+        record(6, site, part_of, site),
+        record(5, exact_site, site, 0),
+    ];
+    records.extend((1..STRUCTURES).map(|part| record(3, part, part_of, (part - 1) / 2)));
+    records.extend((0..18).map(|part| record(1, part, structure, 0)));
+    for of in 0..STRUCTURES {
+        records.push(record(1, disease_of(of), disease, 0));
+        records.push(record(3, disease_of(of), site, of));
+        records.push(record(4, site, of, at(of)));
+        records.push(record(2, disease, at(of), disease_of(of)));
     }
     rng.shuffle(&mut records);
-    packs::question(64, 2, &records, u64::from(procedure(19)), u64::from(on(0)))
+    packs::question(62, 3, &records, disease_of(STRUCTURES - 1) as u64, disease_of(0) as u64)
 }

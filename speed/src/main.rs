@@ -1,4 +1,4 @@
-//! Times the calls against Rust checkers and an engine that are written for speed, in one run.
+//! Times the calls against Rust checkers, an engine and finders of reasons, in one run.
 //! Both get the same warm buffers, which nothing clears or moves between runs; they take turns,
 //! and the least time of many runs counts.
 
@@ -9,7 +9,7 @@ mod reasons;
 
 use engine::Engine;
 use noolukask_tests::calls::raw;
-use noolukask_tests::packs;
+use noolukask_tests::packs::places;
 use noolukask_tests::rng::Rng;
 use noolukask_tests::rules::Question;
 use noolukask_tests::runs;
@@ -60,7 +60,7 @@ fn ours_write(q: &Question, sheet: &mut [u8]) -> u64 {
 }
 
 fn ours_module(q: &Question, out: &mut [u8]) -> u64 {
-    // SAFETY: as above; only the call writes to the marks out meanwhile.
+    // SAFETY: as above; only the call writes to the out marks meanwhile.
     unsafe {
         raw::noolukask_module(
             q.n, q.m, q.pack.as_ptr(), q.pack.len(), q.marks.as_ptr(), q.marks.len(), q.a,
@@ -93,9 +93,13 @@ fn time(call: Call, q: &Question, sheet: &mut [u8], expected: u64) -> u128 {
     taken
 }
 
-/// The least time of each over so many turns; who goes first alternates. Each has its own sheet, and
+/// What is measured, the largest ratio that is wanted, and how many turns are taken.
+struct Line<'a>(&'a str, Option<f64>, u32);
+
+/// The least time of each over the turns; who goes first alternates. Each has its own sheet or out marks, and
 /// both leave the same bytes.
-fn measure(what: &str, ours: Call, rust: Call, (q, sheet): (Question, Vec<u8>), expected: u64, turns: u32) {
+fn measure(line: Line, ours: Call, rust: Call, (q, sheet): (Question, Vec<u8>), expected: u64) {
+    let Line(what, wanted, turns) = line;
     let (mut best_ours, mut best_rust) = (u128::MAX, u128::MAX);
     let (mut our_sheet, mut rust_sheet) = (sheet.clone(), sheet);
     for turn in 0..turns {
@@ -108,12 +112,14 @@ fn measure(what: &str, ours: Call, rust: Call, (q, sheet): (Question, Vec<u8>), 
         }
     }
     assert!(our_sheet == rust_sheet, "{what}: the sheets differ");
-    println!("{what:<72} {best_ours:>10} {best_rust:>10} {:>6.2}", best_ours as f64 / best_rust as f64);
+    let wanted = wanted.map_or(String::new(), |most| format!("{most:.2}"));
+    let ratio = best_ours as f64 / best_rust as f64;
+    println!("{what:<72} {best_ours:>10} {best_rust:>10} {ratio:>6.2} {wanted:>6}");
 }
 
 /// The verdict call, or the sheet writer with room for any sheet of ours. Passes and facts are those of
 /// the Rust engine up to the goal or the end.
-fn measure_engine(what: &str, write: bool, q: Question, turns: u32) {
+fn measure_engine(Line(what, wanted, turns): Line, write: bool, q: Question) {
     let (count, marks) = fast::question(&q).expect("a good question");
     let run = Engine::settle::<false>(&q, count, &marks);
     let what = format!("{what}: {} passes, {} facts", run.passes, run.facts);
@@ -125,58 +131,70 @@ fn measure_engine(what: &str, write: bool, q: Question, turns: u32) {
     };
     let mut sheet = vec![0; room];
     let expected = rust(&q, &mut sheet);
-    measure(&what, ours, rust, (q, vec![0; room]), expected, turns);
+    measure(Line(&what, wanted, turns), ours, rust, (q, vec![0; room]), expected);
 }
 
 fn measure_checks(rng: &mut Rng) {
     let rust_yes: Call = |q, sheet| fast::check_yes(q, sheet);
     let rust_no: Call = |q, sheet| fast::check_no(q, sheet);
     let rust_pack: Call = |q, _| fast::check_pack(q.n, q.m, &q.pack);
-    let sheet = inputs::long_yes_sheet(rng);
-    measure("yes check, 36,000 steps, 1,024 records", ours_yes, rust_yes, sheet, 0, 400);
-    let sheet = inputs::staircase_no_sheet(rng);
-    measure("no check, k 64, 1,024 records, 400 chains, half the links", ours_no, rust_no, sheet, 0, 200);
-    let sheet = inputs::full_no_sheet(rng);
-    measure("no check, k 64, 1,024 records, 400 chains, all links", ours_no, rust_no, sheet, 0, 200);
-    let pack = (inputs::mixed_pack(rng), Vec::new());
-    measure("pack check, 1,024 records", ours_pack, rust_pack, pack, 256 * 1024, 5000);
+    let twice = Some(2.0);
+    let line = Line("yes check, 36,000 steps, 1,024 records", twice, 400);
+    measure(line, ours_yes, rust_yes, inputs::long_yes_sheet(rng), 0);
+    let line = Line("no check, k 64, 1,024 records, 400 chains, half the links", twice, 200);
+    measure(line, ours_no, rust_no, inputs::staircase_no_sheet(rng), 0);
+    let line = Line("no check, k 64, 1,024 records, 400 chains, all links", twice, 200);
+    measure(line, ours_no, rust_no, inputs::full_no_sheet(rng), 0);
+    let line = Line("pack check, 1,024 records", None, 5000);
+    measure(line, ours_pack, rust_pack, (inputs::mixed_pack(rng), Vec::new()), 256 * 1024);
 }
 
 fn measure_engines(rng: &mut Rng) {
-    measure_engine("verdict, 1,024 mixed records", false, inputs::open_pack(rng), 200);
-    measure_engine("verdict, 400 chains on full tables", false, inputs::chains_on_full(rng), 100);
+    let half_more = Some(1.5);
+    measure_engine(Line("verdict, 1,024 mixed records", half_more, 200), false, inputs::open_pack(rng));
+    measure_engine(Line("verdict, 400 chains on full tables", half_more, 100), false, inputs::chains_on_full(rng));
     let reverse = Question { a: 63, b: 0, ..runs::reverse(64) };
-    measure_engine("verdict, 63 records in reverse", false, reverse, 200);
-    measure_engine("verdict, counters", false, runs::counters(64, 8), 2);
-    measure_engine("yes sheet, the longest", true, runs::fullest(), 200);
-    measure_engine("no sheet, 1,024 mixed records", true, inputs::open_pack(rng), 200);
+    measure_engine(Line("verdict, 63 records in reverse", None, 200), false, reverse);
+    measure_engine(Line("verdict, counters", None, 2), false, runs::counters(64, 8));
+    measure_engine(Line("yes sheet, the longest", Some(2.0), 200), true, runs::fullest());
+    measure_engine(Line("no sheet, 1,024 mixed records", Some(2.0), 200), true, inputs::open_pack(rng));
 }
 
-/// The set call against deletion record by record: with the Rust engine, and with our own verdict call.
-fn measure_set(what: &str, q: Question, turns: u32) {
-    let with_rust: Call = |q, out| reasons::put(&reasons::set_with_rust(q), out);
-    let with_verdicts: Call = |q, out| reasons::put(&reasons::set_with_verdicts(q), out);
-    let mut out = vec![0; 128];
-    let expected = with_rust(&q, &mut out);
-    let (found, asked) = reasons::halving(&q);
-    assert!(packs::rows(&found) == out, "{what}: halving finds another set");
-    let (kept, marked) = ((expected / 256) as f64, q.pack.len() as f64 / 8.0);
-    let most = (kept + 1.0) * (marked.log2() + 2.0);
-    println!("{what}: {kept} kept; {asked} completions by halving, at most {most:.0} wanted, {marked} by deletion");
-    measure(&format!("{what}, deletion in Rust"), ours_set, with_rust, (q.clone(), vec![0; 128]), expected, turns);
-    measure(&format!("{what}, deletion with our verdict"), ours_set, with_verdicts, (q, vec![0; 128]), expected, turns);
+/// A call that gives reasons; how many records it found stands in the line.
+fn measure_reasons(Line(what, wanted, turns): Line, ours: Call, rust: Call, q: &Question) {
+    let back = ours(q, &mut [0; 128]);
+    assert_eq!(back % 256, 0, "{what}");
+    let what = format!("{what}: {} records", back / 256);
+    measure(Line(&what, wanted, turns), ours, rust, (q.clone(), vec![0; 128]), back);
 }
 
-fn measure_reasons(rng: &mut Rng) {
-    let rust_module: Call = |q, out| reasons::put(&reasons::module(q), out);
-    let q = inputs::open_pack(rng);
-    let expected = rust_module(&q, &mut vec![0; 128]);
-    measure("module, 1,024 mixed records", ours_module, rust_module, (q, vec![0; 128]), expected, 500);
-    let q = Question { a: 63, b: 0, ..runs::reverse(64) };
-    let expected = rust_module(&q, &mut vec![0; 128]);
-    measure("module, 63 records in reverse", ours_module, rust_module, (q, vec![0; 128]), expected, 500);
-    measure_set("set, 1,024 mixed records", inputs::long_reason(rng), 3);
-    measure_set("set, 120 records of a terminology", inputs::terminology(rng), 20);
+/// How many completions a printed set takes by halving, and how many are wanted at most.
+fn count_completions(what: &str, q: &Question) {
+    let mut out = [0; 128];
+    let kept = ours_set(q, &mut out) / 256;
+    let (set, count) = reasons::by_halving(q);
+    assert!(set == out, "{what}: the sets differ");
+    let marked = places(&q.marks).len() as u64;
+    let log = 63 - u64::from(marked.leading_zeros());
+    let most = format!("({kept} + 1) * ({log} + 2) = {}", (kept + 1) * (log + 2));
+    println!("completions of a set by halving, {what}: {count}; wanted: at most {most}");
+}
+
+fn measure_all_reasons(rng: &mut Rng) {
+    let (staged, snomed) = (inputs::staged_pack(rng), inputs::snomed_pack(rng));
+    let half_more = Some(1.5);
+    let line = Line("module, 1,024 mixed records", half_more, 2000);
+    measure_reasons(line, ours_module, reasons::module, &staged);
+    let line = Line("module, 63 records in reverse", half_more, 2000);
+    measure_reasons(line, ours_module, reasons::module, &runs::reverse(64));
+    let line = Line("set, 1,024 mixed records, Rust deletion", None, 2);
+    measure_reasons(line, ours_set, reasons::printed_set, &staged);
+    let line = Line("set, 1,024 mixed records, deletion by our verdicts", Some(0.5), 2);
+    measure_reasons(line, ours_set, reasons::printed_by_verdicts, &staged);
+    let line = Line("set, 120 SNOMED-like records, Rust deletion", half_more, 200);
+    measure_reasons(line, ours_set, reasons::printed_set, &snomed);
+    count_completions("1,024 mixed records", &staged);
+    count_completions("120 SNOMED-like records", &snomed);
 }
 
 fn main() {
@@ -187,9 +205,9 @@ fn main() {
         println!("EMULATED: both ran under one emulator of x86-64. The times are no measurements of this");
         println!("machine; the ratios compare two emulated programs, and those of x86-64 itself may differ.");
     }
-    let ratio = if emulated { "ratio (emulated)" } else { "ratio" };
+    let ratio = if emulated { "ratio (emulated), wanted" } else { "ratio, wanted" };
     println!("{:<72} {:>10} {:>10} {:>6}", "what", "ours (ns)", "Rust (ns)", ratio);
     measure_checks(&mut rng);
     measure_engines(&mut rng);
-    measure_reasons(&mut rng);
+    measure_all_reasons(&mut rng);
 }

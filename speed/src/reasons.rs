@@ -1,145 +1,128 @@
-//! The Rust module and printed set that the calls are measured against, written for speed from document 01:
-//! the module by two words of names, the set by deletion record by record. Neither asks anything of a bad
-//! question.
+//! The Rust module and printed sets that the calls are measured against, written from document 01: the module
+//! for speed, the sets by deletion record by record. And the halving that counts completions.
 
 use crate::engine::Engine;
-use crate::fast::{bit, fields};
-use noolukask_tests::calls::raw;
-use noolukask_tests::packs;
+use crate::fast::{fields, marked, question};
+use crate::{ours_module, ours_verdict};
+use noolukask_tests::packs::{marks, places};
 use noolukask_tests::rules::Question;
 
-pub type Marks = [u64; 16];
-
-/// The marks as words.
-pub fn words(marks: &[u8]) -> Marks {
-    std::array::from_fn(|i| u64::from_le_bytes(marks[8 * i..8 * i + 8].try_into().expect("8 bytes")))
+/// A record's names as bits: concepts and roles on the left, then on the right.
+fn sides([kind, a, b, c]: [usize; 4]) -> ([u64; 2], [u64; 2]) {
+    let bit = |number: usize| 1u64 << number;
+    match kind {
+        1 => ([bit(a), 0], [bit(b), 0]),
+        2 => ([bit(a) | bit(b), 0], [bit(c), 0]),
+        3 => ([bit(a), 0], [bit(c), bit(b)]),
+        4 => ([bit(b), bit(a)], [bit(c), 0]),
+        5 => ([0, bit(a)], [0, bit(b)]),
+        _ => ([0, bit(a) | bit(b)], [0, bit(c)]),
+    }
 }
 
-fn ones(marks: &Marks) -> u64 {
-    marks.iter().map(|word| u64::from(word.count_ones())).sum()
+/// Writes 16 words as the out marks; what a call returns for them.
+fn give(words: &[u64; 16], out: &mut [u8]) -> u64 {
+    for (word, part) in words.iter().zip(out.chunks_exact_mut(8)) {
+        part.copy_from_slice(&word.to_le_bytes());
+    }
+    256 * words.iter().map(|word| u64::from(word.count_ones())).sum::<u64>()
 }
 
-/// Those of the marks that are not from `from` on and below `to`.
-fn without(marks: &Marks, from: usize, to: usize) -> Marks {
-    let mut left = *marks;
-    (from..to).for_each(|place| left[place / 64] &= !(1 << (place % 64)));
-    left
-}
-
-fn places(marks: &Marks) -> Vec<usize> {
-    (0..1024).filter(|&place| bit(marks[place / 64], place)).collect()
-}
-
-/// The marked records whose left-side names are reached from a.
-pub fn module(q: &Question) -> Marks {
-    let (count, marks) = (q.pack.len() / 8, words(&q.marks));
-    let (mut concepts, mut roles) = (1u64 << q.a, 0u64);
-    let reached = |concepts: u64, roles: u64, [kind, a, b, _]: [usize; 4]| match kind {
-        1 | 3 => bit(concepts, a),
-        2 => bit(concepts, a) && bit(concepts, b),
-        4 => bit(roles, a) && bit(concepts, b),
-        5 => bit(roles, a),
-        _ => bit(roles, a) && bit(roles, b),
+/// What the module call returns and leaves: over and over through the marked records that are not in it yet.
+pub fn module(q: &Question, out: &mut [u8]) -> u64 {
+    let mut left = match marked(q) {
+        Ok((_, marks)) if q.a < q.n => marks,
+        Ok(_) => return 5,
+        Err(back) => return back % 16 + 256 * (back / 16),
     };
+    let mut names = [1u64 << q.a, 0];
+    let mut inside = [0u64; 16];
     loop {
-        let before = (concepts, roles);
-        for place in (0..count).filter(|&place| bit(marks[place / 64], place)) {
-            let record = fields(&q.pack, place);
-            if reached(concepts, roles, record) {
-                let [kind, _, b, c] = record;
-                match kind {
-                    1 => concepts |= 1 << b,
-                    2 | 4 => concepts |= 1 << c,
-                    3 => (concepts, roles) = (concepts | 1 << c, roles | 1 << b),
-                    5 => roles |= 1 << b,
-                    _ => roles |= 1 << c,
+        let before = names;
+        for (i, (left, inside)) in left.iter_mut().zip(&mut inside).enumerate() {
+            let mut rest = *left;
+            while rest != 0 {
+                let bit = rest & rest.wrapping_neg();
+                rest ^= bit;
+                let (from, to) = sides(fields(&q.pack, 64 * i + bit.trailing_zeros() as usize));
+                if from[0] & !names[0] | from[1] & !names[1] == 0 {
+                    names = [names[0] | to[0], names[1] | to[1]];
+                    *inside |= bit;
+                    *left ^= bit;
                 }
             }
         }
-        if before == (concepts, roles) {
-            break;
+        if names == before {
+            return give(&inside, out);
         }
     }
-    let mut found = [0; 16];
-    for place in (0..count).filter(|&place| bit(marks[place / 64], place)) {
-        if reached(concepts, roles, fields(&q.pack, place)) {
-            found[place / 64] |= 1 << (place % 64);
-        }
-    }
-    found
 }
 
-/// Deletion record by record, ascending: each goes where the goal follows without it.
-fn delete(q: &Question, mut follows: impl FnMut(&Marks) -> bool) -> Marks {
-    let mut left = words(&q.marks);
-    for place in places(&left) {
-        let trial = without(&left, place, place + 1);
-        if follows(&trial) {
-            left = trial;
-        }
-    }
-    left
-}
-
-/// The set by deletion with the Rust engine.
-pub fn set_with_rust(q: &Question) -> Marks {
-    delete(q, |marks| Engine::settle::<false>(q, q.pack.len() / 8, marks).follows())
-}
-
-/// Does the goal follow from these marks? The verdict call says.
-fn call_follows(q: &Question, marks: &Marks) -> bool {
-    let marks = packs::rows(marks);
-    // SAFETY: each pointer and length are of one slice that lives through the call.
-    let back = unsafe {
-        raw::noolukask_verdict(
-            q.n, q.m, q.pack.as_ptr(), q.pack.len(), marks.as_ptr(), marks.len(), q.a, q.b,
-        )
+/// What the set call returns and leaves: each marked record goes when the goal follows without it.
+fn by_deletion(q: &Question, out: &mut [u8], follows: impl Fn(&[u64; 16]) -> bool) -> u64 {
+    let (count, mut kept) = match question(q) {
+        Ok(found) => found,
+        Err(back) => return back % 16 + 256 * (back / 16),
     };
-    back == 256
-}
-
-/// The set by deletion with the verdict call: the same completion as that of the set call.
-pub fn set_with_verdicts(q: &Question) -> Marks {
-    delete(q, |marks| call_follows(q, marks))
-}
-
-/// The set by halving with the verdict call, as docs/DECISIONS.md describes it, and how often it asks:
-/// once for the verdict and then for each test.
-pub fn halving(q: &Question) -> (Marks, u64) {
-    let mut asked = 1;
-    assert!(call_follows(q, &words(&q.marks)));
-    let mut left = module(q);
-    let mut settled = 0;
-    loop {
-        let candidates: Vec<usize> = places(&left).into_iter().filter(|&place| place >= settled).collect();
-        if candidates.is_empty() {
-            return (left, asked);
-        }
-        let mut goes = |to: usize| {
-            asked += 1;
-            call_follows(q, &without(&left, candidates[0], to))
-        };
-        if goes(1024) {
-            left = without(&left, candidates[0], 1024);
-            return (left, asked);
-        }
-        let (mut low, mut high) = (0, candidates.len());
-        while low + 1 < high {
-            let middle = low + (high - low) / 2;
-            if goes(candidates[middle]) {
-                low = middle;
-            } else {
-                high = middle;
+    if !follows(&kept) {
+        return 7;
+    }
+    for place in 0..count {
+        let bit = kept[place / 64] & 1 << (place % 64);
+        if bit != 0 {
+            kept[place / 64] ^= bit;
+            if !follows(&kept) {
+                kept[place / 64] ^= bit;
             }
         }
-        let kept = candidates[low];
-        left = without(&left, candidates[0], kept);
-        settled = kept + 1;
     }
+    give(&kept, out)
 }
 
-/// What the module call and the set call return and leave.
-pub fn put(found: &Marks, out: &mut [u8]) -> u64 {
-    out.copy_from_slice(&packs::rows(found));
-    256 * ones(found)
+/// The set with the Rust engine's completion.
+pub fn printed_set(q: &Question, out: &mut [u8]) -> u64 {
+    let count = q.pack.len() / 8;
+    by_deletion(q, out, |kept| Engine::settle::<false>(q, count, kept).follows())
+}
+
+/// The set with the completion of the verdict call.
+pub fn printed_by_verdicts(q: &Question, out: &mut [u8]) -> u64 {
+    let asked = std::cell::RefCell::new(q.clone());
+    by_deletion(q, out, |kept| {
+        let mut asked = asked.borrow_mut();
+        give(kept, &mut asked.marks);
+        ours_verdict(&asked, &mut []) == 256
+    })
+}
+
+/// The set by halving over the verdict call, for a goal that follows, and how many verdicts that took. Of the
+/// module's records those before a place are settled, the rest are candidates. While the goal does not follow
+/// from the settled ones alone, the next one to keep is that with which too many candidates have gone.
+pub fn by_halving(q: &Question) -> (Vec<u8>, u64) {
+    let mut asked = q.clone();
+    ours_module(q, &mut asked.marks);
+    let all = places(&asked.marks);
+    let mut verdicts = 0;
+    let mut follows = |kept: &[usize], candidates: &[usize]| {
+        verdicts += 1;
+        asked.marks = marks(kept.iter().chain(candidates).copied());
+        ours_verdict(&asked, &mut []) == 256
+    };
+    let (mut kept, mut candidates) = (Vec::new(), &all[..]);
+    assert!(follows(&kept, candidates), "the goal follows");
+    while !follows(&kept, &[]) {
+        // So many candidates can go, and so many cannot.
+        let (mut can, mut cannot) = (0, candidates.len());
+        while can + 1 < cannot {
+            let half = (can + cannot) / 2;
+            if follows(&kept, &candidates[half..]) {
+                can = half;
+            } else {
+                cannot = half;
+            }
+        }
+        kept.push(candidates[can]);
+        candidates = &candidates[cannot..];
+    }
+    (marks(kept), verdicts)
 }

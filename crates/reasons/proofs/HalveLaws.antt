@@ -73,6 +73,10 @@ cut-marked ws i k l = fun-ext (λ j. go j (decLt j 1024))
     go j (yes h) = marked-of (cutOut (marked ws) i k) j h
     go j (no h) = marked-past (cutOut (marked ws) i k) j (omega arith) ∙ past j (omega arith) (cutOut (marked ws) i k j) refl
 
+-- with no range cut out they mark what they did
+pub copy-marked : (ws copy : List ℕ) → length ws ≡ 16 → copy ≡ marksOf (cutOut (marked ws) 0 0) → marked copy ≡ marked ws
+copy-marked ws copy l e = ap marked e ∙ cut-marked ws 0 0 l ∙ fun-ext (λ j. cut-after (marked ws) 0 0 j (omega arith))
+
 -- of S, the places of T are left, and those below i are settled
 pub record Halved (len : ℕ) (F : (ℕ → Bool) → Type 0) (S T : ℕ → Bool) (i : ℕ) : Type 0 where
   pub fewer : (j : ℕ) → T j ≡ true → S j ≡ true

@@ -11,5 +11,5 @@ pub mod AskLaws
 pub mod NameLaws
 pub mod SetLaws
 pub mod SetRight
-pub mod MarkingLaws
+pub mod LeftLaws
 pub mod ModuleLaws

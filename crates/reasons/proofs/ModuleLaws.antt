@@ -1,6 +1,6 @@
 -- Laws of the module call: the words that it finds, that they mark exactly the module, and that no second answer keeps its promise.
 use mathlib.Core.Path.{_≡_, refl, sym, _∙_}
-use mathlib.Core.Bool.{Bool, true, false}
+use mathlib.Core.Bool.{Bool, true, false, not, _&&_}
 use mathlib.Core.List.{List}
 use Prim.Native.Nat.{ℕ, _≤_, _<_}
 use native.Mathlib.Decide.{decLt}
@@ -19,18 +19,14 @@ use Rattle.pack.proofs.QuestionLaws.{Asked, asked}
 use Rattle.pack.proofs.RecordLaws.{lines-length}
 use Rattle.engine.proofs.VerdictLaws.{valid}
 use Rattle.reasons.specs.Reach.{Name, leftNames, allIn, IsReached, moduleIn, IsModule, reached, moduleOf}
-use Rattle.reasons.specs.Names.{TakenOf}
+use Rattle.reasons.specs.Names.{TakenOf, Unreached}
 use Rattle.reasons.specs.OutMarks.{marksOf, checkReason}
 use Rattle.reasons.specs.Module.{moduleMarks, marksAnswer, askModule, writtenModule}
 use Rattle.reasons.proofs.OutLaws.{marks-length, marked-of, marked-past, marks-alike, both-asked}
 use Rattle.reasons.proofs.ReachLaws.{module-is, module-one}
 
 module _ (ls : List Line) (S : ℕ → Bool) (R : Name → Bool) where
-  -- a place that is marked is in the module where its left-side names all are in R; no other place is
-  pub inside-marked : (i : ℕ) → S i ≡ true → moduleIn ls S R i ≡ allIn R (leftNames (lineAt ls i))
-  unfolding moduleIn
-  inside-marked i h = rw h
-
+  -- a place that is not marked is not in the module
   pub outside-unmarked : (i : ℕ) → S i ≡ false → moduleIn ls S R i ≡ false
   unfolding moduleIn
   outside-unmarked i h = rw h
@@ -78,6 +74,16 @@ module _ (n m : ℕ) (s ws : List ℕ) (a : ℕ) (taken : TakenOf n m s ws a) wh
       go : (i : ℕ) → Dec (i < length ls) → moduleIn ls S R i ≡ moduleOf ls S n m a i
       go i (yes h) = module-one ls S a (moduleIn ls S R) (moduleOf ls S n m a) (record { names = R; reached = r; places = λ j l. refl }) (module-is ls S n m a lines-right (question .goalA)) i h
       go i (no h) = outside-unmarked ls S R i (none-past i (omega arith)) ∙ sym (module-past i (omega arith))
+
+  -- THE MARKS BUT FOR WHAT IS LEFT are the module's
+  pub left-module : (left : List ℕ) → Unreached (linesOf s) (counted s ws) a (marked left) → marksOf (λ i. marked ws i && not (marked left i)) ≡ moduleMarks n m s ws a
+  left-module left u =
+      marks-alike (λ i. marked ws i && not (marked left i)) (moduleIn (linesOf s) (counted s ws) (u .names)) (λ i _. go i (decLt i (length (linesOf s))))
+      ∙ names-module (u .names) (u .reached)
+    where
+      go : (i : ℕ) → Dec (i < length (linesOf s)) → (marked ws i && not (marked left i)) ≡ moduleIn (linesOf s) (counted s ws) (u .names) i
+      go i (yes h) = sym (u .places i h)
+      go i (no h) = rw (none-past i (omega arith)) (sym (outside-unmarked (linesOf s) (counted s ws) (u .names) i (none-past i (omega arith))))
 
   -- THEY MARK EXACTLY THE MODULE
   pub marks-module : IsModule (linesOf s) (counted s ws) a (marked (moduleMarks n m s ws a))

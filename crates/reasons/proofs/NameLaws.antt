@@ -1,6 +1,6 @@
 -- Laws of the names as bits: what a line adds, what a pass over the marked lines makes of them, and that each pass but the last adds one.
 use mathlib.Core.Path.{_≡_, refl, sym, ap, ap₂, _∙_, subst}
-use mathlib.Core.Bool.{Bool, true, false, cond, _&&_, _||_}
+use mathlib.Core.Bool.{Bool, true, false, cond, not, _&&_, _||_}
 use mathlib.Core.List.{List, [], _∷_}
 use Prim.Native.Nat.{ℕ, suc, _+_, _-_, _^_, _≤_, _<_}
 use native.Mathlib.Decide.{decLt, ℕ-discrete}
@@ -9,15 +9,16 @@ use lib.Dec.{eqb}
 use lib.ListN.{length}
 use borrow.Author.Tests.{eqb-true, eq-eqb}
 use Rattle.bits.specs.Bit.{has}
-use Rattle.bits.specs.Sets.{countTo}
+use Rattle.bits.specs.Sets.{lowest, countTo}
 use Rattle.bits.proofs.Truth.{and-true, true-and, or-elim, or-left, or-right, or-false, never, alike}
 use Rattle.bits.proofs.BitLaws.{has-with, has-ext, has-zero}
-use Rattle.bits.proofs.SetLaws.{Lowest, count-le}
+use Rattle.bits.proofs.SetLaws.{Lowest, lowest-is, count-le}
+use Rattle.pack.specs.Marks.{marked}
 use Rattle.pack.specs.declared.line.Line.{Line}
 use Rattle.pack.specs.World.{lineAt}
 use Rattle.reasons.specs.declared.reach.Names.{Names}
-use Rattle.reasons.specs.Reach.{Name, concept, role, leftNames, rightNames, allIn, Reaches, IsReached, sameName}
-use Rattle.reasons.specs.Names.{nameIn, withName, withNames, withLine, Inside, Passed}
+use Rattle.reasons.specs.Reach.{Name, concept, role, leftNames, rightNames, allIn, Reaches, moduleIn, sameName}
+use Rattle.reasons.specs.Names.{nameIn, withName, withNames, withLine, Inside, Passed, Unreached}
 use Rattle.reasons.proofs.ReachLaws.{name-self, name-one, count-fewer, count-less}
 
 -- ONE NAME MORE: that name and those that were there
@@ -82,39 +83,80 @@ line-least ns l Q f h = go (allIn (nameIn ns) (leftNames l)) refl
     go true e = names-least (rightNames l) ns Q h (f (all-inside (nameIn ns) Q h (leftNames l) e))
     go false e = h
 
--- A PASS, from one marked place to the next
-module _ (ls : List Line) (S : ℕ → Bool) (R : Name → Bool) where
-  -- no place from i on and before j is marked
-  passed-on : (i j : ℕ) {R′ : Name → Bool} → ((k : ℕ) → i ≤ k → k < j → S k ≡ false) → Passed ls S i R R′ → Passed ls S j R R′
-  passed-on i j {R′} none p = record { keeps = p .keeps; least = p .least; goes = λ k l t m g. go k l t m g (decLt k i) }
+-- the next marked place as the search has it
+pub next-lowest : (ws : List ℕ) (i r : ℕ) → r ≡ lowest (marked ws) i (1024 - i) → Lowest (marked ws) i (1024 - i) r
+next-lowest ws i r e = rw e (lowest-is (marked ws) i (1024 - i))
+
+-- A PASS, from one place that is left to the next
+module _ (ls : List Line) (T : ℕ → Bool) (R : Name → Bool) where
+  -- no place from i on and before j is left
+  passed-on : (i j : ℕ) {T′ : ℕ → Bool} {R′ : Name → Bool} → ((k : ℕ) → i ≤ k → k < j → T′ k ≡ false) → Passed ls T T′ i R R′ → Passed ls T T′ j R R′
+  passed-on i j {T′} {R′} none p = record { keeps = p .keeps; fewer = p .fewer; least = p .least; gone = p .gone; lacks = λ k l t m. go k l t m (decLt k i) }
     where
-      go : (k : ℕ) → k < j → k < length ls → S k ≡ true → allIn R (leftNames (lineAt ls k)) ≡ true → Dec (k < i) → allIn R′ (rightNames (lineAt ls k)) ≡ true
-      go k l t m g (yes h) = p .goes k h t m g
-      go k l t m g (no h) = never m (none k (omega arith) l)
+      go : (k : ℕ) → k < j → k < length ls → T′ k ≡ true → Dec (k < i) → allIn R (leftNames (lineAt ls k)) ≡ false
+      go k l t m (yes h) = p .lacks k h t m
+      go k l t m (no h) = never m (none k (omega arith) l)
 
-  pub passed-start : {j : ℕ} → Lowest S 0 1024 j → Passed ls S j R R
-  passed-start {j} low = passed-on 0 j (low .none) (record { keeps = λ x h. h; least = λ a Q r h. h; goes = λ k l t m g. absurd (omega arith) })
+  pub passed-start : {j : ℕ} → Lowest T 0 1024 j → Passed ls T T j R R
+  passed-start {j} low = passed-on 0 j (low .none) (record { keeps = λ x h. h; fewer = λ i h. h; least = λ a Q r h. h; gone = λ i l h g. never h g; lacks = λ i l. absurd (omega arith) })
 
-  -- the line at a marked place
-  passed-line : (i : ℕ) (ns : Names) → Passed ls S i R (nameIn ns) → i < length ls → S i ≡ true → Passed ls S (i + 1) R (nameIn (withLine ns (lineAt ls i)))
-  passed-line i ns p t m = record {
-    keeps = λ x h. line-keeps ns (lineAt ls i) x (p .keeps x h);
-    least = λ a Q r h. line-least ns (lineAt ls i) Q (r .goes i t m) (p .least a Q r h);
-    goes = λ k l u v g. go k l u v g (ℕ-discrete k i);
-  }
-    where
-      go : (k : ℕ) → k < i + 1 → k < length ls → S k ≡ true → allIn R (leftNames (lineAt ls k)) ≡ true → Dec (k ≡ i) → allIn (nameIn (withLine ns (lineAt ls i))) (rightNames (lineAt ls k)) ≡ true
-      go k l u v g (yes z) =
-          subst (λ (q : ℕ). allIn (nameIn (withLine ns (lineAt ls q))) (rightNames (lineAt ls k)) ≡ true) z
-          (line-goes ns (lineAt ls k) (all-inside R (nameIn ns) (p .keeps) (leftNames (lineAt ls k)) g))
-      go k l u v g (no z) =
-          all-inside (nameIn ns) (nameIn (withLine ns (lineAt ls i))) (line-keeps ns (lineAt ls i)) (rightNames (lineAt ls k)) (p .goes k (omega arith) u v g)
+  -- the line at a place that is left: t is whether its left side is reached
+  module _ (i : ℕ) (ns : Names) (T′ T″ : ℕ → Bool) (p : Passed ls T T′ i R (nameIn ns)) (there : i < length ls) (here : T′ i ≡ true)
+      (off : (k : ℕ) → T″ k ≡ (T′ k && not (allIn (nameIn ns) (leftNames (lineAt ls i)) && eqb i k))) where
+    line-fewer : (k : ℕ) → T″ k ≡ true → T′ k ≡ true
+    line-fewer k h = and-true (T′ k) (not (allIn (nameIn ns) (leftNames (lineAt ls i)) && eqb i k)) (sym (off k) ∙ h) .0
 
-  pub passed-next : (i : ℕ) (ns ms : Names) → Passed ls S i R (nameIn ns) → i < length ls → S i ≡ true → ms ≡ withLine ns (lineAt ls i) → {j : ℕ} → Lowest S (i + 1) (1024 - (i + 1)) j → Passed ls S j R (nameIn ms)
-  passed-next i ns ms p t m e {j} low = subst (λ (after : Names). Passed ls S j R (nameIn after)) (sym e) (passed-on (i + 1) j (low .none) (passed-line i ns p t m))
+    -- a place that goes is this one, and it is reached
+    line-off : (k : ℕ) → T′ k ≡ true → T″ k ≡ false → (allIn (nameIn ns) (leftNames (lineAt ls i)) ≡ true) × (i ≡ k)
+    line-off k h g = go (allIn (nameIn ns) (leftNames (lineAt ls i))) (eqb i k) refl refl (ap (λ (t : Bool). t && not (allIn (nameIn ns) (leftNames (lineAt ls i)) && eqb i k)) (sym h) ∙ sym (off k) ∙ g)
+      where
+        go : (t u : Bool) → allIn (nameIn ns) (leftNames (lineAt ls i)) ≡ t → eqb i k ≡ u → not (t && u) ≡ false → (allIn (nameIn ns) (leftNames (lineAt ls i)) ≡ true) × (i ≡ k)
+        go true true e f z = (e, eqb-true i k f)
+        go true false e f z = never refl z
+        go false u e f z = never refl z
 
-  pub passed-end : (i : ℕ) {R′ : Name → Bool} → Passed ls S i R R′ → length ls ≤ i → Passed ls S (length ls) R R′
-  passed-end i p h = record { keeps = p .keeps; least = p .least; goes = λ k l. p .goes k (omega arith) }
+    line-lacks : T″ i ≡ true → allIn R (leftNames (lineAt ls i)) ≡ false
+    line-lacks h = go (allIn R (leftNames (lineAt ls i))) refl
+      where
+        go : (t : Bool) → allIn R (leftNames (lineAt ls i)) ≡ t → t ≡ false
+        go true e =
+            never h
+            (off i ∙ rw (here, all-inside R (nameIn ns) (p .keeps) (leftNames (lineAt ls i)) e, eq-eqb i i refl))
+        go false e = refl
+
+    passed-line : Passed ls T T″ (i + 1) R (nameIn (withLine ns (lineAt ls i)))
+    passed-line = record {
+      keeps = λ x h. line-keeps ns (lineAt ls i) x (p .keeps x h);
+      fewer = λ k h. p .fewer k (line-fewer k h);
+      least = λ a Q r h. line-least ns (lineAt ls i) Q (r .goes i there (p .fewer i here)) (p .least a Q r h);
+      gone = λ k l m g. gone k l m g (T′ k) refl;
+      lacks = λ k l t m. lacks k l t m (ℕ-discrete i k);
+    }
+      where
+        R″ : Name → Bool
+        R″ = nameIn (withLine ns (lineAt ls i))
+
+        gone : (k : ℕ) → k < length ls → T k ≡ true → T″ k ≡ false → (t : Bool) → T′ k ≡ t → (allIn R″ (leftNames (lineAt ls k)) ≡ true) × (allIn R″ (rightNames (lineAt ls k)) ≡ true)
+        gone k l m g false e =
+            let q = p .gone k l m e in
+            let up = all-inside (nameIn ns) R″ (line-keeps ns (lineAt ls i)) in
+            (up (leftNames (lineAt ls k)) (q .0), up (rightNames (lineAt ls k)) (q .1))
+        gone k l m g true e =
+            let q = line-off k e g in
+            subst (λ (x : ℕ). (allIn R″ (leftNames (lineAt ls x)) ≡ true) × (allIn R″ (rightNames (lineAt ls x)) ≡ true)) (q .1)
+            (all-inside (nameIn ns) R″ (line-keeps ns (lineAt ls i)) (leftNames (lineAt ls i)) (q .0), line-goes ns (lineAt ls i) (q .0))
+
+        lacks : (k : ℕ) → k < i + 1 → k < length ls → T″ k ≡ true → Dec (i ≡ k) → allIn R (leftNames (lineAt ls k)) ≡ false
+        lacks k l t m (yes z) = subst (λ (x : ℕ). T″ x ≡ true → allIn R (leftNames (lineAt ls x)) ≡ false) z line-lacks m
+        lacks k l t m (no z) = p .lacks k (omega arith) t (line-fewer k m)
+
+  pub passed-next : (i : ℕ) (ns ms : Names) (T′ T″ : ℕ → Bool) → Passed ls T T′ i R (nameIn ns) → i < length ls → T′ i ≡ true
+      → ((k : ℕ) → T″ k ≡ (T′ k && not (allIn (nameIn ns) (leftNames (lineAt ls i)) && eqb i k))) → ms ≡ withLine ns (lineAt ls i) → {j : ℕ} → Lowest T″ (i + 1) (1024 - (i + 1)) j → Passed ls T T″ j R (nameIn ms)
+  passed-next i ns ms T′ T″ p t m off e {j} low =
+      subst (λ (after : Names). Passed ls T T″ j R (nameIn after)) (sym e) (passed-on (i + 1) j (low .none) (passed-line i ns T′ T″ p t m off))
+
+  pub passed-end : (i : ℕ) {T′ : ℕ → Bool} {R′ : Name → Bool} → Passed ls T T′ i R R′ → length ls ≤ i → Passed ls T T′ (length ls) R R′
+  passed-end i p h = record { keeps = p .keeps; fewer = p .fewer; least = p .least; gone = p .gone; lacks = λ k l. p .lacks k (omega arith) }
 
 -- how many names there are
 abbrev pub nameCount : Names → ℕ
@@ -153,28 +195,61 @@ names-rise ms ns b₁ b₂ b₃ b₄ up e = by-contra (suc (nameCount ns)) (name
         (eq-eqb (ms .concepts) (ns .concepts) (sym (word-same (ns .concepts) (ms .concepts) b₃ b₁ (λ j. up (concept j)) (omega arith))))
         (eq-eqb (ms .roles) (ns .roles) (sym (word-same (ns .roles) (ms .roles) b₄ b₂ (λ j. up (role j)) (omega arith))))
 
--- PASSES FROM CONCEPT a ON: a is there, and nothing that a set which reaches can lack
+-- PASSES FROM CONCEPT a ON: a is there, and nothing that a set which reaches can lack; of S, both sides of what is no longer left
 module _ (ls : List Line) (S : ℕ → Bool) (a : ℕ) where
-  pub record Reaching (ns : Names) : Type 0 where
+  pub record Reaching (ns : Names) (T : ℕ → Bool) : Type 0 where
     pub start : nameIn ns (concept a) ≡ true
     pub least : (Q : Name → Bool) → Reaches ls S a Q → Inside (nameIn ns) Q
+    pub fewer : (i : ℕ) → T i ≡ true → S i ≡ true
+    pub done : (i : ℕ) → i < length ls → S i ≡ true → T i ≡ false → (allIn (nameIn ns) (leftNames (lineAt ls i)) ≡ true) × (allIn (nameIn ns) (rightNames (lineAt ls i)) ≡ true)
 
-  pub reaching-start : (ns none : Names) → none .concepts ≡ 0 → none .roles ≡ 0 → ns ≡ withName none (concept a) → Reaching ns
-  reaching-start ns none c r e = subst Reaching (sym e) (record { start = name-there none (concept a); least = λ Q q. name-least none (concept a) Q (empty Q) (q .start) })
+  pub reaching-start : (ns none : Names) (T : ℕ → Bool) → none .concepts ≡ 0 → none .roles ≡ 0 → ns ≡ withName none (concept a) → T ≡ S → Reaching ns T
+  reaching-start ns none T c r e same =
+      subst (λ (ms : Names). Reaching ms T) (sym e)
+      (record {
+        start = name-there none (concept a);
+        least = λ Q q. name-least none (concept a) Q (empty Q) (q .start);
+        fewer = λ i h. ap (λ (p : ℕ → Bool). p i) (sym same) ∙ h;
+        done = λ i l h g. never h (ap (λ (p : ℕ → Bool). p i) (sym same) ∙ g);
+      })
     where
       empty : (Q : Name → Bool) → Inside (nameIn none) Q
       empty Q (concept x) h = never h (ap (λ (w : ℕ). has w x) c ∙ has-zero x)
       empty Q (role x) h = never h (ap (λ (w : ℕ). has w x) r ∙ has-zero x)
 
-  pub reaching-next : (ns ms : Names) → Reaching ns → Passed ls S (length ls) (nameIn ns) (nameIn ms) → Reaching ms
-  reaching-next ns ms q p = record { start = p .keeps (concept a) (q .start); least = λ Q r. p .least a Q r (q .least Q r) }
+  module _ (ns ms : Names) (T T′ : ℕ → Bool) (q : Reaching ns T) (p : Passed ls T T′ (length ls) (nameIn ns) (nameIn ms)) where
+    pub reaching-next : Reaching ms T′
+    reaching-next = record {
+      start = p .keeps (concept a) (q .start);
+      least = λ Q r. p .least a Q (record { start = r .start; goes = λ i l h. r .goes i l (q .fewer i h) }) (q .least Q r);
+      fewer = λ i h. q .fewer i (p .fewer i h);
+      done = λ i l h g. go i l h g (T i) refl;
+    }
+      where
+        go : (i : ℕ) → i < length ls → S i ≡ true → T′ i ≡ false → (t : Bool) → T i ≡ t → (allIn (nameIn ms) (leftNames (lineAt ls i)) ≡ true) × (allIn (nameIn ms) (rightNames (lineAt ls i)) ≡ true)
+        go i l h g true e = p .gone i l e g
+        go i l h g false e =
+            let d = q .done i l h e in
+            let up = all-inside (nameIn ns) (nameIn ms) (p .keeps) in
+            (up (leftNames (lineAt ls i)) (d .0), up (rightNames (lineAt ls i)) (d .1))
 
-  -- A PASS THAT ADDS NOTHING: the names are the smallest set
-  pub reaching-end : (ns ms : Names) → Reaching ns → Passed ls S (length ls) (nameIn ns) (nameIn ms) → ms ≡ ns → IsReached ls S a (nameIn ms)
-  reaching-end ns ms q p e = record {
-    reaches = record {
-      start = reaching-next ns ms q p .start;
-      goes = λ i l m g. p .goes i l l m (subst (λ (k : Names). allIn (nameIn k) (leftNames (lineAt ls i)) ≡ true) e g);
-    };
-    least = reaching-next ns ms q p .least;
-  }
+    -- A PASS THAT ADDS NO NAME: they are the smallest set, and what is left is what they do not reach
+    pub reaching-end : ms ≡ ns → Unreached ls S a T′
+    unfolding moduleIn
+    reaching-end same = record {
+      names = nameIn ms;
+      reached = record { reaches = record { start = reaching-next .start; goes = λ i l h g. goes i l h g (T′ i) refl }; least = reaching-next .least };
+      places = λ i l. place i l (S i) refl (T′ i) refl;
+    }
+      where
+        lacks : (i : ℕ) → i < length ls → T′ i ≡ true → allIn (nameIn ms) (leftNames (lineAt ls i)) ≡ false
+        lacks i l e = subst (λ (k : Names). allIn (nameIn k) (leftNames (lineAt ls i)) ≡ false) (sym same) (p .lacks i l l e)
+
+        goes : (i : ℕ) → i < length ls → S i ≡ true → allIn (nameIn ms) (leftNames (lineAt ls i)) ≡ true → (t : Bool) → T′ i ≡ t → allIn (nameIn ms) (rightNames (lineAt ls i)) ≡ true
+        goes i l h g true e = never g (lacks i l e)
+        goes i l h g false e = reaching-next .done i l h e .1
+
+        place : (i : ℕ) → i < length ls → (t : Bool) → S i ≡ t → (u : Bool) → T′ i ≡ u → (S i && allIn (nameIn ms) (leftNames (lineAt ls i))) ≡ (S i && not (T′ i))
+        place i l false e u f = rw e
+        place i l true e true f = rw (e, f, lacks i l f)
+        place i l true e false f = rw (e, f, reaching-next .done i l e f .0)

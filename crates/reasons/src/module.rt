@@ -1,48 +1,37 @@
 // The module for a concept: the records that count and whose left-side names are all reached from it.
 ghost use mathlib.Core.Path.{_≡_};
-ghost use mathlib.Core.Bool.{cond, false};
-ghost use Prim.Native.Nat.{ℕ, _%_, _≤_};
+ghost use mathlib.Core.Bool.{not, _&&_};
+ghost use Prim.Native.Nat.{ℕ, _^_, _<_};
 ghost use lib.ListN.{length};
-ghost use Rattle.bits.specs.Bit.{withBit};
-ghost use Rattle.pack.specs.Marks.{counted, markCount};
-ghost use Rattle.pack.specs.Record.{linesOf, Valid};
-ghost use Rattle.reasons.specs.Reach.{moduleIn};
+ghost use Rattle.bits.specs.Bit.{has};
+ghost use Rattle.pack.specs.Marks.{marked, markCount};
 ghost use Rattle.reasons.specs.OutMarks.{marksOf};
-ghost use Rattle.reasons.specs.Names.{nameIn, TakenOf};
+ghost use Rattle.reasons.specs.Names.{TakenOf};
 ghost use Rattle.reasons.specs.Module.{moduleMarks, askModule, writtenModule};
 use crate::out::check_reason;
 use crate::out::put_marks;
-use crate::reach::Names;
-use crate::reach::left_reached;
-use crate::reach::reach_names;
+use crate::reach::unreached;
 use pack::check::Checked;
-use pack::check::line_at;
 use pack::marks::count_marked;
-use pack::marks::next_marked;
 
-// The word, with the bit of place i set where the place is to be marked.
-fn mark_if(w: u64, i: usize, yes: bool) -> u64
-    ensures { λ r. ⌜ r ≡ cond yes (withBit w (i % 64)) w ⌝ }
+// The marked ones of 64 places that are not left.
+fn taken_word(w: u64, left: u64) -> u64
+    ensures { λ r. ⌜ (r < 2 ^ 64) × ((j : ℕ) → j < 64 → has r j ≡ (has w j && not (has left j))) ⌝ }
 {
-    if yes {
-        return bits::with_bit(w, i);
-    }
-    w
+    w & !left
 }
 
-// The marks of the records that count and whose left-side names are all among the names.
-fn mark_reached<'a>(pack: &'a [u8], marks: &'a [u64], names: Names) -> [u64; 16]
-    requires { ⌜ Valid 64 8 (linesOf (now pack)) × (length (now pack) ≤ 8192) × ((i : ℕ) → length (linesOf (now pack)) ≤ i → counted (now pack) (now marks) i ≡ false) ⌝ }
-    ensures { λ r. ⌜ r ≡ marksOf (moduleIn (linesOf (now (pack .entry))) (counted (now (pack .entry)) (now (marks .entry))) (nameIn names)) ⌝ }
+// The marks but for those that are left.
+fn taken_marks<'a>(marks: &'a [u64], left: &'a [u64]) -> [u64; 16]
+    requires { ⌜ (length (now marks) ≡ 16) × (length (now left) ≡ 16) ⌝ }
+    ensures { λ r. ⌜ r ≡ marksOf (λ i. marked (now (marks .entry)) i && not (marked (now (left .entry)) i)) ⌝ }
 {
-    let records = pack.len() / 8;
     let mut words = [0u64; 16];
-    let mut i = next_marked(marks, 0);
-    while i < records {
-        let at = i / 64;
-        let w = mark_if(words[at], i, left_reached(line_at(pack, i), names));
-        words[at] = w;
-        i = next_marked(marks, i + 1);
+    let mut j = 0;
+    while j < 16 {
+        let w = taken_word(marks[j], left[j]);
+        words[j] = w;
+        j += 1;
     }
     words
 }
@@ -52,8 +41,8 @@ pub fn module_of<'a>(n: usize, m: usize, pack: &'a [u8], marks: &'a [u64], a: us
     requires { ⌜ TakenOf n m (now pack) (now marks) a ⌝ }
     ensures { λ r. ⌜ r ≡ moduleMarks n m (now (pack .entry)) (now (marks .entry)) a ⌝ }
 {
-    let names = reach_names(pack, marks, a as u8);
-    mark_reached(pack, marks, names)
+    let left = unreached(pack, marks, a as u8);
+    taken_marks(marks, &left)
 }
 
 // The module of a question that is taken into the marks out, and how many records they mark.

@@ -1,5 +1,6 @@
-use mathlib.Core.Path.{sym, _∙_}
--- `reasons::reach::reach_line` meets its contract.
+use Rattle.bits.proofs.Truth.{and-yes}
+use mathlib.Core.Path.{refl, sym, _∙_}
+-- `reasons::reach::reach_line` meets its contract: with its right side, and off the marks that are left.
 use borrow.Author.Needs.{needs}
 use Rattle.reasons.proofs.reach.reach_line.Statement.{statement}
 use Rattle.reasons.proofs.reach.reach_line.Tie as tie
@@ -7,14 +8,33 @@ use Rattle.reasons.proofs.reach.reach_line.Tie as tie
 left-reached-requires : tie.Need-left-reached-requires
 left-reached-requires c κs = search needs
 
+unmark-requires : tie.Need-unmark-requires
+unmark-requires c κs = search needs
+
 with-right-requires : tie.Need-with-right-requires
 with-right-requires c κs = search needs
 
+same-length : tie.Need-same-length
+same-length c = search needs
+
 returns : tie.Need-returns
-returns c = rw (sym (c .before .before .left-reached .ensures) ∙ c .before .if1 .taken) (c .with-right .ensures)
+returns c =
+    let e = sym (c .before .before .before .before .before .before .left-reached .ensures) ∙ c .before .before .before .before .before .if1 .taken in
+    let off = c .before .before .before .unmark .ensures in
+    (rw e (c .with-right .ensures), (off .0, λ k. off .1 k ∙ rw e))
 
 returns-2 : tie.Need-returns-2
-returns-2 c = rw (sym (c .before .left-reached .ensures) ∙ c .if1 .left)
+returns-2 c =
+    let e = sym (c .before .left-reached .ensures) ∙ c .if1 .left in
+    (rw e, (c .before .before .before .pre .1, λ k. rw e (sym (and-yes _))))
 
 pub reach-line-spec : {M : Type 1} → statement M
-reach-line-spec = tie.close (tie.spec left-reached-requires with-right-requires returns returns-2)
+reach-line-spec =
+    tie.close
+    (tie.spec
+    left-reached-requires
+    unmark-requires
+    with-right-requires
+    same-length
+    returns
+    returns-2)

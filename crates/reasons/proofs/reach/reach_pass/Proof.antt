@@ -1,77 +1,83 @@
-use Rattle.reasons.proofs.NameLaws.{passed-start, passed-next, passed-end}
+use borrow.Author.Needs.{needs}
+use Rattle.reasons.proofs.NameLaws.{next-lowest, passed-start, passed-next, passed-end}
 use Rattle.reasons.specs.Names.{nameIn, withLine, Passed}
+use Rattle.reasons.specs.Reach.{leftNames, allIn}
 use Rattle.pack.proofs.RecordLaws.{lines-length, lines-at}
+use Rattle.pack.specs.declared.line.Line.{Line}
 use Rattle.pack.specs.Record.{linesOf, ValidLine}
 use Rattle.pack.specs.World.{lineAt}
 use Rattle.pack.specs.Marks.{marked}
 use Rattle.bits.proofs.SetLaws.{Lowest, lowest-is}
-use borrow.Author.Needs.{needs}
+use lib.Dec.{eqb}
 use lib.ListN.{length}
 use native.Mathlib.Omega.{arith}
-use mathlib.Core.Bool.{true}
-use mathlib.Core.Path.{_≡_, sym, ap, _∙_, subst}
-use Prim.Native.Nat.{_+_, _-_, _<_}
--- `reasons::reach::reach_pass` meets its contract: from one record that counts to the next.
+use mathlib.Core.Bool.{Bool, true, not, _&&_}
+use mathlib.Core.Path.{_≡_, refl, sym, ap, _∙_, subst}
+use Prim.Native.Nat.{ℕ, _+_, _-_, _<_}
+-- `reasons::reach::reach_pass` meets its contract: from one record that is left to the next.
 use Rattle.reasons.proofs.reach.reach_pass.Statement.{statement}
 use Rattle.reasons.proofs.reach.reach_pass.Tie as tie
 
 abbrev Inv-loop : tie.InvT-loop
-Inv-loop pack marks records reached₀ i₀ reached i =
-    (i < records → marked marks i ≡ true) × Passed (linesOf pack) (marked marks) i (nameIn reached₀) (nameIn reached)
+Inv-loop pack left₀ records reached₀ i₀ left reached i = (length left ≡ 16) × (i < records → marked left i ≡ true) × Passed (linesOf pack) (marked left₀) (marked left) i (nameIn reached₀) (nameIn reached)
 
 abbrev μ-loop : tie.MeasureT-loop
-μ-loop pack marks records reached₀ i₀ reached i = 1024 - i
+μ-loop pack left₀ records reached₀ i₀ left reached i = 1024 - i
 
 next-marked-requires : tie.Need-next-marked-requires Inv-loop μ-loop
 next-marked-requires c κs = search needs
 
 loop-holds : tie.Need-loop-holds Inv-loop μ-loop
 loop-holds c =
-    let a = c .before .before .before .args in
-    let low : Lowest (marked (a .marks .now)) 0 1024 (c .next-marked .result) = rw (c .next-marked .ensures) (lowest-is (marked (a .marks .now)) 0 1024) in
-    (λ l. low .found (omega arith), passed-start _ _ _ low)
+    let a = c .before .before .before .before .args in
+    let low : Lowest (marked (a .left .now)) 0 1024 (c .next-marked .result) = rw (c .next-marked .ensures) (lowest-is (marked (a .left .now)) 0 1024) in
+    (c .before .before .before .before .pre .2, λ l. low .found (omega (arith, c .before .before .before .before .pre .1)), passed-start _ _ _ low)
 
 line-at-requires : tie.Need-line-at-requires Inv-loop μ-loop
 line-at-requires c κs = omega arith
 
--- the place's line; that it is a place; the next place
-here : (c : tie.After-line-at Inv-loop μ-loop) → lineAt (linesOf (c .before .before .before .before .before .before .args .pack .now)) (c .before .before .loop .i) ≡ c .line-at .result
-here c = lines-at (c .before .before .before .before .before .before .args .pack .now) (c .before .before .loop .i) (c .before .loop-test .taken) ∙ sym (c .line-at .ensures)
+-- the place's line; that it is a place
+here : (c : tie.After-line-at Inv-loop μ-loop) → lineAt (linesOf (c .before .before .before .before .before .before .before .args .pack .now)) (c .before .before .loop .i) ≡ c .line-at .result
+here c = lines-at (c .before .before .before .before .before .before .before .args .pack .now) (c .before .before .loop .i) (c .before .loop-test .taken) ∙ sym (c .line-at .ensures)
 
-there : (c : tie.After-line-at Inv-loop μ-loop) → c .before .before .loop .i < length (linesOf (c .before .before .before .before .before .before .args .pack .now))
-there c = omega (arith, lines-length (c .before .before .before .before .before .before .args .pack .now))
-
-next : (c : tie.After-next-marked2 Inv-loop μ-loop) → let i = c .before .before .before .before .loop .i in Lowest (marked (c .before .before .before .before .before .before .before .before .args .marks .now)) (i + 1) (1024 - (i + 1)) (c .next-marked2 .result)
-next c = let i = c .before .before .before .before .loop .i in rw (c .next-marked2 .ensures) (lowest-is (marked (c .before .before .before .before .before .before .before .before .args .marks .now)) (i + 1) (1024 - (i + 1)))
+there : (c : tie.After-line-at Inv-loop μ-loop) → c .before .before .loop .i < length (linesOf (c .before .before .before .before .before .before .before .args .pack .now))
+there c = omega (arith, lines-length (c .before .before .before .before .before .before .before .args .pack .now))
 
 reach-line-requires : tie.Need-reach-line-requires Inv-loop μ-loop
-reach-line-requires c κs = subst (ValidLine 64 8) (here c) (c .before .before .before .before .before .before .pre .0 (c .before .before .loop .i) (there c))
+reach-line-requires c κs = (subst (ValidLine 64 8) (here (c .before)) (c .before .before .before .before .before .before .before .before .pre .0 (c .before .before .before .loop .i) (there (c .before))), c .before .before .before .loop .inv .0, omega (arith, c .before .before .before .before .before .before .before .before .pre .1))
 
 add-next-marked : tie.Need-add-next-marked Inv-loop μ-loop
-add-next-marked c = omega arith
+add-next-marked c = omega (arith, c .before .before .before .before .before .before .before .before .before .before .before .before .pre .1)
 
 next-marked-requires-2 : tie.Need-next-marked-requires-2 Inv-loop μ-loop
 next-marked-requires-2 c κs = search needs
 
 loop-less : tie.Need-loop-less Inv-loop μ-loop
-loop-less c = omega (arith, next c .from)
+loop-less c = omega (arith, c .before .before .before .before .before .before .before .before .before .before .before .before .before .pre .1, next-lowest _ _ _ (c .next-marked2 .ensures) .from)
 
 loop-again : tie.Need-loop-again Inv-loop μ-loop
 loop-again c =
-    let l = c .before .before .before .before .loop in
-    let a = c .before .before .before .before .before .before .before .before .args in
-    let at-line = c .before .before in (
-      λ g. next c .found (omega arith),
-      passed-next (linesOf (a .pack .now)) (marked (a .marks .now)) (nameIn (a .names)) (l .i) (l .reached) (c .before .reach-line .result) (l .inv .1) (there at-line) (l .inv .0 (c .before .before .before .loop-test .taken))
-          (c .before .reach-line .ensures ∙ ap (withLine (l .reached)) (sym (here at-line)))
-          (next c),
+    let l = c .before .before .before .before .before .before .before .before .loop in
+    let a = c .before .before .before .before .before .before .before .before .before .before .before .before .before .args in
+    let at-line = c .before .before .before .before .before .before in
+    let line = c .before .before .before .before .reach-line .ensures in
+    let next = next-lowest _ _ _ (c .next-marked2 .ensures) in
+    let e = here at-line in (
+      line .1 .0,
+      λ g. next .found (omega (arith, c .before .before .before .before .before .before .before .before .before .before .before .before .before .pre .1)),
+      passed-next (linesOf (a .pack .now)) (marked (a .left .now)) (nameIn (a .names)) (l .i) (l .reached) _ (marked (l .left)) _ (l .inv .2) (there at-line) (l .inv .1 (c .before .before .before .before .before .before .before .loop-test .taken))
+          (λ k. line .1 .1 k ∙ ap (λ (x : Line). marked (l .left) k && not (allIn (nameIn (l .reached)) (leftNames x) && eqb (l .i) k)) (sym e))
+          (line .0 ∙ ap (withLine (l .reached)) (sym e)) next,
     )
+
+same-length : tie.Need-same-length Inv-loop μ-loop
+same-length c = c .before .loop .inv .0 ∙ sym (c .before .before .before .before .before .before .pre .2)
 
 returns : tie.Need-returns Inv-loop μ-loop
 returns c =
     let l = c .before .loop in
-    let a = c .before .before .before .before .before .args in
-    passed-end (linesOf (a .pack .now)) (marked (a .marks .now)) (nameIn (a .names)) (l .i) (l .inv .1) (omega (arith, lines-length (a .pack .now)))
+    let a = c .before .before .before .before .before .before .args in
+    (l .inv .0, passed-end (linesOf (a .pack .now)) (marked (a .left .now)) (nameIn (a .names)) (l .i) (l .inv .2) (omega (arith, lines-length (a .pack .now))))
 
 pub reach-pass-spec : {M : Type 1} → statement M
 reach-pass-spec =
@@ -87,4 +93,5 @@ reach-pass-spec =
     next-marked-requires-2
     loop-less
     loop-again
+    same-length
     returns)

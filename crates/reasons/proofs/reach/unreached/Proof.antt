@@ -1,0 +1,76 @@
+use borrow.Author.Needs.{needs}
+use Rattle.reasons.proofs.NameLaws.{nameCount, count-most, names-same, names-rise, Reaching, reaching-start, reaching-next, reaching-end}
+use Rattle.reasons.proofs.HalveLaws.{copy-marked}
+use Rattle.reasons.proofs.OutLaws.{marks-length}
+use Rattle.pack.specs.Record.{linesOf}
+use Rattle.pack.specs.Marks.{marked}
+use lib.ListN.{length}
+use native.Mathlib.Omega.{arith}
+use mathlib.Core.Path.{_≡_, refl, sym, ap, _∙_}
+use Prim.Native.Nat.{_-_, _^_, _<_}
+-- `reasons::reach::unreached` meets its contract: from one pass to the next, each with more names, up to one that adds none.
+use Rattle.reasons.proofs.reach.unreached.Statement.{statement}
+use Rattle.reasons.proofs.reach.unreached.Tie as tie
+
+abbrev Inv-loop : tie.InvT-loop
+Inv-loop pack marks a names₀ left₀ names left = (names .concepts < 2 ^ 64) × (names .roles < 2 ^ 64) × (length left ≡ 16) × Reaching (linesOf pack) (marked marks) a names (marked left)
+
+abbrev μ-loop : tie.MeasureT-loop
+μ-loop pack marks a names₀ left₀ names left = 128 - nameCount names
+
+with-concept-requires : tie.Need-with-concept-requires Inv-loop μ-loop
+with-concept-requires c κs = c .before .before .pre .3
+
+cut-marks-requires : tie.Need-cut-marks-requires Inv-loop μ-loop
+cut-marks-requires c κs = c .before .before .before .pre .2
+
+loop-holds : tie.Need-loop-holds Inv-loop μ-loop
+loop-holds c =
+    let cut = c .cut-marks .ensures in
+    (omega arith, omega arith, ap length cut ∙ marks-length _, reaching-start _ _ _ _ _ _ refl refl (c .before .with-concept .ensures) (copy-marked _ _ (c .before .before .before .before .pre .2) cut))
+
+slice-aggregate-reach-pass : tie.Need-slice-aggregate-reach-pass Inv-loop μ-loop
+slice-aggregate-reach-pass c = sym (c .before .loop .inv .2)
+
+reach-pass-requires : tie.Need-reach-pass-requires Inv-loop μ-loop
+reach-pass-requires c κs = let pre = c .before .before .before .before .before .before .pre in (pre .0, pre .1, c .before .loop .inv .2)
+
+same-names-requires : tie.Need-same-names-requires Inv-loop μ-loop
+same-names-requires c κs = search needs
+
+returns : tie.Need-returns Inv-loop μ-loop
+returns c =
+    let l = c .before .before .before .before .before .loop in
+    let next = c .before .before .before .reach-pass in
+    (next .ensures .0, reaching-end _ _ _ _ _ _ _ (l .inv .3) (next .ensures .1) (names-same (next .result) (l .names) (sym (c .before .same-names .ensures) ∙ c .if1 .taken)))
+
+loop-less : tie.Need-loop-less Inv-loop μ-loop
+loop-less c =
+    let l = c .before .before .before .before .before .loop in
+    let next = c .before .before .before .reach-pass in
+    omega (
+      arith,
+      count-most (next .result),
+      names-rise (next .result) (l .names) (omega arith) (omega arith) (l .inv .0) (l .inv .1) (next .ensures .1 .keeps) (sym (c .before .same-names .ensures) ∙ c .if1 .left),
+    )
+
+loop-again : tie.Need-loop-again Inv-loop μ-loop
+loop-again c =
+    let next = c .before .before .before .reach-pass in
+    (omega arith, omega arith, next .ensures .0, reaching-next _ _ _ _ _ _ _ (c .before .before .before .before .before .loop .inv .3) (next .ensures .1))
+
+pub unreached-spec : {M : Type 1} → statement M
+unreached-spec =
+    tie.close
+    (tie.spec
+    Inv-loop
+    μ-loop
+    with-concept-requires
+    cut-marks-requires
+    loop-holds
+    slice-aggregate-reach-pass
+    reach-pass-requires
+    same-names-requires
+    returns
+    loop-less
+    loop-again)
