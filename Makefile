@@ -19,7 +19,8 @@ run: target/bin/bench build/desk
 		echo "the editors' desk on the valve pack:" && $$RUN build/desk
 
 speed: $(ARCHIVES)
-	@$(PLATFORM) && cd speed && "$$CARGO" run --quiet --offline --release -- $$EMULATED
+	@mkdir -p build
+	@$(PLATFORM) && cd speed && "$$CARGO" run --quiet --offline --release -- "$${EMULATED:-native}" ../build/speed.svg
 
 build/desk: examples/desk.c examples/guarded.h include/noolukask.h $(ARCHIVES)
 	@mkdir -p build

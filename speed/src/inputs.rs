@@ -5,7 +5,7 @@ use noolukask_tests::rng::Rng;
 use noolukask_tests::rules::Question;
 
 pub const STEPS: usize = 36_000;
-const RECORDS: usize = 1024;
+pub const RECORDS: usize = 1024;
 const CHAINS: usize = 400;
 
 /// 1,024 records of all kinds, every one marked.
@@ -172,10 +172,10 @@ pub fn full_no_sheet(rng: &mut Rng) -> (Question, Vec<u8>) {
     (packs::question(64, 8, &world.pack(rng), 1, 0), world.sheet())
 }
 
-/// 1,024 records of all kinds of which none puts anything into 0: that 1 is under 0 never follows.
-pub fn open_pack(rng: &mut Rng) -> Question {
+/// So many records of all kinds of which none puts anything into 0: that 1 is under 0 never follows.
+pub fn open_pack(rng: &mut Rng, count: usize) -> Question {
     let mut records = Vec::new();
-    while records.len() < RECORDS {
+    while records.len() < count {
         let drawn = record(rng.between(1, 6), rng.below(64), rng.below(64), rng.below(64));
         let gained = match drawn[0] {
             1 => drawn[2],
@@ -206,10 +206,10 @@ fn stage(concept: usize) -> usize {
     (concept / 3).min(STAGES - 1)
 }
 
-/// 1,024 records of all kinds, every one marked, whose printed set is about 30 of them: the goal leads from the
+/// So many records of all kinds, 128 or more and every one marked, whose printed set is about 30 of them: the goal leads from the
 /// first stage to the last. From a stage to the next there are three ways, of one sort; every other record
 /// leads from concepts of a stage to concepts of the same or of earlier ones.
-pub fn staged_pack(rng: &mut Rng) -> Question {
+pub fn staged_pack(rng: &mut Rng, count: usize) -> Question {
     let mut records: Vec<[u8; 4]> = Vec::new();
     for (from, to) in (0..STAGES - 1).map(|stage| (3 * stage, 3 * stage + 3)) {
         for _ in 0..3 {
@@ -221,7 +221,7 @@ pub fn staged_pack(rng: &mut Rng) -> Question {
             }
         }
     }
-    while records.len() < RECORDS {
+    while records.len() < count {
         let [kind, a, b, c] = [rng.between(1, 6), rng.below(64), rng.below(64), rng.below(64)];
         let back = match kind {
             1 => stage(b) <= stage(a),

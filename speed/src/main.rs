@@ -5,6 +5,7 @@
 mod engine;
 mod fast;
 mod inputs;
+mod plot;
 mod reasons;
 
 use engine::Engine;
@@ -98,23 +99,31 @@ struct Line<'a>(&'a str, Option<f64>, u32);
 
 /// The least time of each over the turns; who goes first alternates. Each has its own sheet or out marks, and
 /// both leave the same bytes.
-fn measure(line: Line, ours: Call, rust: Call, (q, sheet): (Question, Vec<u8>), expected: u64) {
-    let Line(what, wanted, turns) = line;
-    let (mut best_ours, mut best_rust) = (u128::MAX, u128::MAX);
+fn least(ours: Call, rust: Call, (q, sheet): (&Question, Vec<u8>), expected: u64, turns: u32) -> [u128; 2] {
+    let mut best = [u128::MAX; 2];
     let (mut our_sheet, mut rust_sheet) = (sheet.clone(), sheet);
     for turn in 0..turns {
         for first in [true, false] {
             if first == (turn % 2 == 0) {
-                best_ours = best_ours.min(time(ours, &q, &mut our_sheet, expected));
+                best[0] = best[0].min(time(ours, q, &mut our_sheet, expected));
             } else {
-                best_rust = best_rust.min(time(rust, &q, &mut rust_sheet, expected));
+                best[1] = best[1].min(time(rust, q, &mut rust_sheet, expected));
             }
         }
     }
-    assert!(our_sheet == rust_sheet, "{what}: the sheets differ");
+    assert!(our_sheet == rust_sheet, "the sheets differ");
+    best
+}
+
+/// A line of the table; while it is measured, its name stands on standard error.
+fn measure(line: Line, ours: Call, rust: Call, (q, sheet): (Question, Vec<u8>), expected: u64) {
+    let Line(what, wanted, turns) = line;
+    eprint!("\r{:<100}\r", format!("measuring {what} .."));
+    let [ours, rust] = least(ours, rust, (&q, sheet), expected, turns);
+    eprint!("\r{:<100}\r", "");
     let wanted = wanted.map_or(String::new(), |most| format!("{most:.2}"));
-    let ratio = best_ours as f64 / best_rust as f64;
-    println!("{what:<72} {best_ours:>10} {best_rust:>10} {ratio:>6.2} {wanted:>6}");
+    let ratio = ours as f64 / rust as f64;
+    println!("{what:<72} {ours:>10} {rust:>10} {ratio:>6.2} {wanted:>6}");
 }
 
 /// The verdict call, or the sheet writer with room for any sheet of ours. Passes and facts are those of
@@ -151,13 +160,13 @@ fn measure_checks(rng: &mut Rng) {
 
 fn measure_engines(rng: &mut Rng) {
     let half_more = Some(1.5);
-    measure_engine(Line("verdict, 1,024 mixed records", half_more, 200), false, inputs::open_pack(rng));
+    measure_engine(Line("verdict, 1,024 mixed records", half_more, 200), false, inputs::open_pack(rng, inputs::RECORDS));
     measure_engine(Line("verdict, 400 chains on full tables", half_more, 100), false, inputs::chains_on_full(rng));
     let reverse = Question { a: 63, b: 0, ..runs::reverse(64) };
     measure_engine(Line("verdict, 63 records in reverse", None, 200), false, reverse);
     measure_engine(Line("verdict, counters", None, 2), false, runs::counters(64, 8));
     measure_engine(Line("yes sheet, the longest", Some(2.0), 200), true, runs::fullest());
-    measure_engine(Line("no sheet, 1,024 mixed records", Some(2.0), 200), true, inputs::open_pack(rng));
+    measure_engine(Line("no sheet, 1,024 mixed records", Some(2.0), 200), true, inputs::open_pack(rng, inputs::RECORDS));
 }
 
 /// A call that gives reasons; how many records it found stands in the line.
@@ -181,7 +190,7 @@ fn count_completions(what: &str, q: &Question) {
 }
 
 fn measure_all_reasons(rng: &mut Rng) {
-    let (staged, snomed) = (inputs::staged_pack(rng), inputs::snomed_pack(rng));
+    let (staged, snomed) = (inputs::staged_pack(rng, inputs::RECORDS), inputs::snomed_pack(rng));
     let half_more = Some(1.5);
     let line = Line("module, 1,024 mixed records", half_more, 2000);
     measure_reasons(line, ours_module, reasons::module, &staged);
@@ -197,7 +206,50 @@ fn measure_all_reasons(rng: &mut Rng) {
     count_completions("120 SNOMED-like records", &snomed);
 }
 
+const RUST_VERDICT: Call = |q, _| engine::verdict(q);
+
+/// Verdicts on these questions, by x: two lines, ours and Rust's, in microseconds.
+fn verdict_lines(questions: impl Iterator<Item = (f64, Question)>) -> Vec<plot::Series> {
+    let (mut ours, mut rust) = (Vec::new(), Vec::new());
+    for (x, q) in questions {
+        eprint!("\r{:<100}\r", format!("plotting verdicts, {x} .."));
+        let best = least(ours_verdict, RUST_VERDICT, (&q, Vec::new()), RUST_VERDICT(&q, &mut []), 20);
+        ours.push((x, best[0] as f64 / 1e3));
+        rust.push((x, best[1] as f64 / 1e3));
+    }
+    vec![plot::Series { name: "ours", points: ours }, plot::Series { name: "Rust", points: rust }]
+}
+
+/// Where numbers say less than a plot: cost against records and against passes, completions against records.
+fn draw(rng: &mut Rng, path: &str) {
+    let by_records = verdict_lines([64, 128, 256, 512, 1024].into_iter().map(|count| (count as f64, inputs::open_pack(rng, count))));
+    let by_passes = verdict_lines([8, 16, 32, 64].into_iter().map(|n| {
+        let reverse = runs::reverse(n);
+        (n as f64, Question { a: n as u64 - 1, b: 0, ..reverse })
+    }));
+    let (mut halving, mut deletion) = (Vec::new(), Vec::new());
+    for count in [128, 256, 512, 1024] {
+        eprint!("\r{:<100}\r", format!("plotting completions, {count} records .."));
+        let (_, asked) = reasons::by_halving(&inputs::staged_pack(rng, count));
+        halving.push((count as f64, asked as f64));
+        deletion.push((count as f64, count as f64));
+    }
+    eprint!("\r{:<100}\r", "");
+    let completions = vec![
+        plot::Series { name: "halving", points: halving },
+        plot::Series { name: "record by record", points: deletion },
+    ];
+    let drawn = plot::svg(&[
+        plot::Panel { title: "Verdict, mixed records, to the end", x: "records", y: "microseconds", series: by_records },
+        plot::Panel { title: "Verdict, records in reverse", x: "passes", y: "microseconds", series: by_passes },
+        plot::Panel { title: "Printed set, about 30 kept", x: "records", y: "completions", series: completions },
+    ]);
+    std::fs::write(path, drawn).expect("the plot can be written");
+    println!("drawn: {path}");
+}
+
 fn main() {
+    // The words after the program: "emulated" or "native", and where to draw.
     let emulated = std::env::args().nth(1).as_deref() == Some("emulated");
     let mut rng = Rng::new(36);
     println!("Least time of many runs in turn; warm buffers, not cleared between runs; n = 64, m = 8.");
@@ -210,4 +262,7 @@ fn main() {
     measure_checks(&mut rng);
     measure_engines(&mut rng);
     measure_all_reasons(&mut rng);
+    if let Some(path) = std::env::args().nth(2) {
+        draw(&mut rng, &path);
+    }
 }
