@@ -1,5 +1,5 @@
 /* An editor's round on the valve pack: the verdict with its sheet and the check of the sheet, the module,
- * the reason; a line of the reason is struck, and all is asked again, until the goal is gone.
+ * the reason; a record of the reason is struck, and all is asked again, until the goal is gone.
  *
  * gcc -Iinclude examples/desk.c target/staticlib/libsheets.a target/staticlib/libdesk.a
  */
@@ -71,13 +71,16 @@ static void check(const char *what, bool follows, const uint8_t *sheet, size_t l
 static bool ask(void)
 {
     bool follows = value(noolukask_verdict(QUESTION)) == 1;
-    size_t len = (size_t)(noolukask_write_sheet(QUESTION, NULL, 0) / 256); /* NO ROOM: the bytes needed */
+    uint64_t room = noolukask_write_sheet(QUESTION, NULL, 0); /* NO ROOM, unless the sheet is empty */
+    size_t len = room % 256 == NOOLUKASK_NO_ROOM ? room / 256 : 0;
     uint8_t *sheet = guarded(len);
     int parts = value(noolukask_write_sheet(QUESTION, sheet, len)) / 2;
     printf("%s, by a sheet of %d %s\n", follows ? "FOLLOWS" : "NOT", parts, follows ? "steps" : "rows");
     check("the sheet", follows, sheet, len);
-    sheet[len - 6] ^= 1;
-    check("the sheet, damaged", follows, sheet, len);
+    if (len > 0) {
+        sheet[len - 6] ^= 1;
+        check("the sheet, damaged", follows, sheet, len);
+    }
     unguard(sheet, len);
     say_found("the module of valve repair", value(noolukask_module(MARKED, A, found, MARKS)));
     return follows;
@@ -92,11 +95,11 @@ int main(void)
     }
     while (ask()) {
         say_found("the reason", value(noolukask_printed_set(QUESTION, found, MARKS)));
-        int line = 0;
-        while (!is_found(line))
-            line++;
-        marks[line / 8] &= ~(1 << line % 8);
-        printf("  struck: %d\n", line);
+        int place = 0;
+        while (!is_found(place))
+            place++;
+        marks[place / 8] &= ~(1 << place % 8);
+        printf("  struck: %d\n", place);
     }
     puts("the goal is gone");
     unguard(found, MARKS), unguard(marks, MARKS), unguard(pack, 8 * RECORDS);

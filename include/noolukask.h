@@ -5,7 +5,8 @@
  *   n       how many concept numbers there are, 1 to 64: concepts are 0 to n-1
  *   m       how many roles there are, 0 to 8: roles are 0 to m-1
  *   pack    records of 8 bytes, 0 to 1,024 of them, no header: the kind, three
- *           bytes a, b, c, and a little-endian statement number of any value
+ *           bytes, a, b, c in this table, and a little-endian statement number of
+ *           any value
  *             kind 1   A under B             a = A,  b = B,  c = 0
  *             kind 2   A1 and A2 under B     a = A1, b = A2, c = B
  *             kind 3   A under some r B      a = A,  b = r,  c = B
@@ -16,14 +17,15 @@
  *           bit i mod 64 of word i div 64 is set, that is bit i mod 8 of byte
  *           i div 8; no bit at or above the record count may be set
  *   a, b    the goal: concept a under concept b; they may be equal
- *   sheet   what somebody offers as the answer, see below
+ *   sheet   to a check what somebody offers as the answer, to the writer the buffer
+ *           for ours; see below
  *   out     128 bytes of marks that a call writes, whatever they held before
  *
  * Numbers and lengths may be of any value: what is out of range is refused.
  * Nothing that is handed over is kept or freed, and nothing is changed but the sheet that
  * noolukask_write_sheet is lent and the marks out of noolukask_module and
- * noolukask_printed_set. A pointer may be NULL where its length is 0. Calls may run side
- * by side.
+ * noolukask_printed_set; these may share no byte with pack or marks. A pointer may be
+ * NULL where its length is 0. Calls may run side by side.
  */
 #ifndef NOOLUKASK_H
 #define NOOLUKASK_H
@@ -40,7 +42,7 @@ enum noolukask_number {
     NOOLUKASK_SIZES = 1,      /* n or m out of range                                       */
     NOOLUKASK_PACK = 2,       /* pack length no multiple of 8, or over 8,192 bytes         */
     NOOLUKASK_RECORD = 3,     /* a record breaks its rules, marked or not: lowest place    */
-    NOOLUKASK_MARKS = 4,      /* not 128 bytes, or a bit at or above the record count      */
+    NOOLUKASK_MARKS = 4,      /* marks, out not 128 bytes, or a bit of marks past the pack  */
     NOOLUKASK_GOAL = 5,       /* a goal concept not below n                                */
     NOOLUKASK_TOO_LONG = 6,   /* the passes would add over 36,800 facts: proved never given */
     NOOLUKASK_NOT_FOLLOWS = 7, /* a set is asked for and the goal does not follow          */
@@ -52,7 +54,7 @@ enum noolukask_number {
     NOOLUKASK_NOT_SHOWN = 13  /* the rest is good, but the goal is not shown or refuted    */
 };
 
-/* ---- Library desk: packs, questions, verdicts and our sheets --------------------
+/* ---- Library desk: packs, questions, verdicts, our sheets, modules and sets -----
  * The calls return the table's number in the low byte (0: nothing is refused) and a
  * value above it (back >> 8): with RECORD the lowest bad place, with NO ROOM the bytes
  * needed, with the other numbers 0, and where nothing is refused what the call says.
@@ -69,7 +71,7 @@ uint64_t noolukask_check_question(uint64_t n, uint64_t m,
                                   const uint8_t *marks, size_t marks_len,
                                   uint64_t a, uint64_t b);
 
-/* Does every thing of concept a belong to concept b? Numbers 1 to 6; where nothing is
+/* Does "a under b" follow from the marked records? Numbers 1 to 5; where nothing is
  * refused the value is 1 for FOLLOWS and 0 for NOT: 256 and 0 come back. */
 uint64_t noolukask_verdict(uint64_t n, uint64_t m,
                            const uint8_t *pack, size_t pack_len,
@@ -77,8 +79,9 @@ uint64_t noolukask_verdict(uint64_t n, uint64_t m,
                            uint64_t a, uint64_t b);
 
 /* Writes the sheet that shows the verdict, a yes sheet or a no sheet as below, to the
- * start of the buffer, and leaves the rest of it as it was. Numbers 1 to 6, and 8 with
- * the bytes needed (a buffer of length 0 asks for the room); else the value is
+ * start of the buffer, and leaves the rest of it as it was. Numbers 1 to 5, and 8 with
+ * the bytes needed (a buffer of length 0 asks for the room; an empty sheet, for a equal
+ * to b, needs none and is written at once); else the value is
  * 2 * steps + 1 for a yes sheet and 2 * rows for a no sheet, of 8 bytes a step or row.
  * Where a number comes back, no byte of the buffer was changed. */
 uint64_t noolukask_write_sheet(uint64_t n, uint64_t m,

@@ -21,6 +21,7 @@ fn record_line(place: u32) {
     io::write_all(1, b"\n");
 }
 
+// A refusal of 1 to 5.
 pub fn refusal_line(why: Refusal) {
     match why {
         Refusal::Sizes => refused_line(1),

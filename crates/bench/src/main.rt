@@ -19,7 +19,7 @@ use reasons::module::module_for;
 use reasons::set::SetAnswer;
 use reasons::set::printed_set;
 
-// The steps or rows of our sheet: what a sheet of no bytes would need.
+// The steps or rows of our sheet: what a sheet of no bytes would need. A refusal is not asked about: the verdict came first.
 fn sheet_parts<'a>(
     n: usize,
     m: usize,
@@ -39,6 +39,7 @@ fn sheet_parts<'a>(
     }
 }
 
+// The module, or its refusal.
 fn module_line<'a>(n: usize, m: usize, pack: &'a [u8], marks: &'a [u64], a: usize) {
     let mut out = [0u64; 16];
     let answer = module_for(n, m, pack, marks, a, &mut out);
@@ -48,6 +49,7 @@ fn module_line<'a>(n: usize, m: usize, pack: &'a [u8], marks: &'a [u64], a: usiz
     }
 }
 
+// The printed set, or its refusal.
 fn set_line<'a>(n: usize, m: usize, pack: &'a [u8], marks: &'a [u64], a: usize, b: usize) {
     let mut out = [0u64; 16];
     let answer = printed_set(n, m, pack, marks, a, b, &mut out);
@@ -90,6 +92,7 @@ fn ask_all(n: usize, m: usize, pack: &[u8], count: u32, a: usize, b: usize) {
     question_lines(n, m, pack, &marks, a, b);
 }
 
+// The pack check, then the question with everything marked.
 fn ask(n: usize, m: usize, pack: &[u8], a: usize, b: usize) {
     let checked = check_pack(n, m, pack);
     match checked {

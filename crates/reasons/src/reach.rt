@@ -20,7 +20,7 @@ pub struct Names {
     pub roles: u64,
 }
 
-// Is the bit of a name set, of one word; and are those of two?
+// Is the bit of a name set?
 fn one_set(w: u64, x: u8) -> bool
     requires { ⌜ x < 64 ⌝ }
     ensures { λ r. ⌜ r ≡ has w x ⌝ }
@@ -28,6 +28,7 @@ fn one_set(w: u64, x: u8) -> bool
     bits::test_bit(w, x as usize)
 }
 
+// Are the bits of two names set?
 fn both_set(w: u64, x: u8, v: u64, y: u8) -> bool
     requires { ⌜ (x < 64) × (y < 64) ⌝ }
     ensures { λ r. ⌜ r ≡ (has w x && has v y) ⌝ }
@@ -149,7 +150,7 @@ fn same_names(one: Names, other: Names) -> bool
     false
 }
 
-// The records that count and whose left side concept a does not reach: what is left when a pass adds no name.
+// The records that count and whose left side concept a does not reach: what is left, of a copy of the marks, when a pass adds no name.
 pub fn unreached<'a>(pack: &'a [u8], marks: &'a [u64], a: u8) -> [u64; 16]
     requires { ⌜ Valid 64 8 (linesOf (now pack)) × (length (now pack) ≤ 8192) × (length (now marks) ≡ 16) × (a < 64) ⌝ }
     ensures { λ r. ⌜ (length r ≡ 16) × Unreached (linesOf (now (pack .entry))) (counted (now (pack .entry)) (now (marks .entry))) a (marked r) ⌝ }

@@ -27,7 +27,7 @@ pub enum SetAnswer {
     Count(u32),
 }
 
-// The marks of the printed set of a goal that follows: picked from its module. For A equal to B nothing is needed.
+// The marks of the printed set of a goal that follows: picked from its module. For A equal to B nothing is needed, and all is cut out.
 fn set_of<'a>(n: usize, m: usize, pack: &'a [u8], marks: &'a [u64], a: usize, b: usize) -> [u64; 16]
     requires { ⌜ Taken n m (now pack) (now marks) a b × Follows (linesOf (now pack)) (counted (now pack) (now marks)) a b ⌝ }
     ensures { λ r. ⌜ r ≡ setWords n m (now (pack .entry)) (now (marks .entry)) a b ⌝ }
@@ -57,7 +57,7 @@ fn put_set<'a>(
     SetAnswer::Count(count_marked(out))
 }
 
-// The set of a question that is taken, where the goal follows.
+// The set of a question that is taken where the goal follows, else 6 or 7 and the out words as they were.
 fn set_taken<'a>(
     n: usize,
     m: usize,
