@@ -1,6 +1,5 @@
 // Standard input: a pack, then one question record of 8 bytes.
 ghost use mathlib.Core.Path.{_≡_};
-ghost use Prim.Native.Nat.{_≤_};
 ghost use lib.ListN.{length};
 ghost use Rattle.bench.specs.Input.{questionIn, inputOf, InputFits};
 

@@ -33,7 +33,6 @@ use Rattle.sheets.specs.NoSheet.{rowAt, thingsIn, noLengthFits, forbidden, worl
 use Rattle.sheets.proofs.YesLaws.{yes-accepts}
 use Rattle.sheets.proofs.NoLaws.{no-accepts}
 use Rattle.sheets.proofs.Verdicts.{never-both}
-use Rattle.passes.specs.Passes.{finished}
 use Rattle.passes.specs.Ours.{ourSteps, ourRows}
 use Rattle.passes.proofs.PassLaws.{decides, not-free-most}
 use Rattle.passes.proofs.YesLaws.{ours-good, ours-small, ours-known, ours-most}

@@ -6,7 +6,7 @@ use Prim.Native.Nat.{ℕ, _≤_}
 use native.Mathlib.Omega.{arith}
 use lib.ListN.{length}
 use Rattle.bits.proofs.Truth.{never}
-use Rattle.pack.specs.Marks.{marked, counted}
+use Rattle.pack.specs.Marks.{marked}
 use Rattle.pack.specs.Question.{Taken}
 use Rattle.pack.specs.Record.{linesOf}
 use Rattle.pack.specs.World.{Follows}

@@ -17,7 +17,7 @@ use Rattle.reasons.specs.Printed.{Within, IsPicked}
 use Rattle.reasons.specs.OutMarks.{marksOf}
 use Rattle.reasons.specs.Inner.{cutOut, Between, Next}
 use Rattle.reasons.proofs.OutLaws.{marked-of, marked-past, marks-length}
-use Rattle.reasons.proofs.PickLaws.{Settled, Cut, cut-within, cut-settled, cut-picked, kept-settled, settled-picked}
+use Rattle.reasons.proofs.PickLaws.{Settled, Cut, cut-settled, cut-picked, kept-settled, settled-picked}
 
 -- r is the next marked place from i on
 module _ (ws : List ℕ) (i r : ℕ) (e : r ≡ lowest (marked ws) i (1024 - i)) where

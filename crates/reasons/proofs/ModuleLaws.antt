@@ -1,6 +1,6 @@
 -- Laws of the module call: the words that it finds, that they mark exactly the module, and that no second answer keeps its promise.
 use mathlib.Core.Path.{_≡_, refl, sym, _∙_}
-use mathlib.Core.Bool.{Bool, true, false, not, _&&_}
+use mathlib.Core.Bool.{Bool, false, not, _&&_}
 use mathlib.Core.List.{List}
 use Prim.Native.Nat.{ℕ, _≤_, _<_}
 use native.Mathlib.Decide.{decLt}
@@ -18,7 +18,7 @@ use Rattle.pack.specs.World.{lineAt}
 use Rattle.pack.proofs.QuestionLaws.{Asked, asked}
 use Rattle.pack.proofs.RecordLaws.{lines-length}
 use Rattle.engine.proofs.VerdictLaws.{valid}
-use Rattle.reasons.specs.Reach.{Name, leftNames, allIn, IsReached, moduleIn, IsModule, reached, moduleOf}
+use Rattle.reasons.specs.Reach.{Name, IsReached, moduleIn, IsModule, reached, moduleOf}
 use Rattle.reasons.specs.Names.{TakenOf, Unreached}
 use Rattle.reasons.specs.OutMarks.{marksOf, checkReason}
 use Rattle.reasons.specs.Module.{moduleMarks, marksAnswer, askModule, writtenModule}

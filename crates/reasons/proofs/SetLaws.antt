@@ -16,7 +16,7 @@ use Rattle.passes.specs.Passes.{verdict}
 use Rattle.engine.proofs.VerdictLaws.{question, valid}
 use Rattle.reasons.specs.Printed.{IsPicked, IsPrinted, without, spared, picked, printed}
 use Rattle.reasons.specs.Reach.{IsModule, allIn, leftNames, reached, moduleOf, moduleIn}
-use Rattle.reasons.specs.OutMarks.{marksOf, marksBoth, checkReason}
+use Rattle.reasons.specs.OutMarks.{marksOf, checkReason}
 use Rattle.reasons.specs.Inner.{cutOut}
 use Rattle.reasons.specs.declared.set.SetAnswer.the-variants as answer
 use Rattle.reasons.specs.Set.{setWords, setAfter, setLeft, askSet, writtenSet}

@@ -1,7 +1,6 @@
 -- The printed set's call is right, and nothing else keeps its promise.
-use mathlib.Core.Path.{_≡_, refl, sym, _∙_}
-use mathlib.Core.Logic.{_↔_}
-use mathlib.Core.Bool.{Bool, true}
+use mathlib.Core.Path.{_≡_, refl, sym}
+use mathlib.Core.Bool.{true}
 use mathlib.Core.List.{List}
 use Prim.Native.Nat.{ℕ, _<_}
 use native.Mathlib.Omega.{arith}
@@ -13,14 +12,13 @@ use Rattle.pack.specs.Question.{Taken}
 use Rattle.pack.specs.Record.{linesOf}
 use Rattle.pack.specs.World.{Follows}
 use Rattle.engine.specs.declared.verdict.VerdictAnswer.the-variants as verdict
-use Rattle.engine.specs.Verdict.{askVerdict}
 use Rattle.engine.proofs.VerdictLaws.{question, valid}
 use Rattle.engine.proofs.OursLaws.{verdict-right}
 use Rattle.reasons.specs.declared.set.SetAnswer.{SetAnswer}
 use Rattle.reasons.specs.declared.set.SetAnswer.the-variants as answer
 use Rattle.reasons.specs.Printed.{IsPrinted, without, printed}
 use Rattle.reasons.specs.OutMarks.{marksBoth}
-use Rattle.reasons.specs.Set.{setWords, setAfter, setLeft, askSet, writtenSet}
+use Rattle.reasons.specs.Set.{setWords, askSet, writtenSet}
 use Rattle.reasons.proofs.OutLaws.{marked-of}
 use Rattle.reasons.proofs.PickLaws.{picked-same}
 use Rattle.reasons.proofs.PrintedLaws.{follows-more, printed-is, printed-needs}

@@ -1,5 +1,4 @@
 use borrow.Author.Tests.{eq-eqb, ne-eqb}
-use Rattle.bench.specs.Input.{questionIn}
 -- `bench::input::read_question` meets its contract: byte by byte.
 use borrow.Author.Needs.{needs}
 use Rattle.bench.proofs.input.read_question.Statement.{statement}

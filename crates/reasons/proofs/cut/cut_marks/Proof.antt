@@ -2,16 +2,13 @@ use borrow.Author.Needs.{needs}
 use Rattle.reasons.specs.OutMarks.{marksOf}
 use Rattle.reasons.specs.Inner.{cutOut}
 use Rattle.pack.proofs.Parts.{fill-on, fill-end}
-use Rattle.pack.proofs.MarkLaws.{at-word}
 use Rattle.pack.specs.Marks.{marked}
 use Rattle.pack.specs.Bytes.{listed}
 use Rattle.passes.specs.Rows.{row}
-use Rattle.passes.proofs.RowLaws.{row-only}
-use Rattle.bits.proofs.BitLaws.{has-high}
 use Rattle.reasons.proofs.CutLaws.{cut-at}
 use lib.ListN.{length, take, length-set}
 use native.Mathlib.Omega.{arith}
-use mathlib.Core.Path.{_≡_, refl, sym, _∙_}
+use mathlib.Core.Path.{_≡_, refl}
 use Prim.Native.Nat.{_≤_, _-_, _+_, _*_}
 -- `reasons::cut::cut_marks` meets its contract: word by word.
 use Rattle.reasons.proofs.cut.cut_marks.Statement.{statement}

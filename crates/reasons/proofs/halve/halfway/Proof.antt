@@ -4,7 +4,7 @@ use Rattle.pack.specs.Marks.{marked}
 use native.Mathlib.Omega.{arith}
 use mathlib.Core.Path.{_≡_}
 use mathlib.Core.Bool.{true}
-use Prim.Native.Nat.{_≤_, _<_, _-_}
+use Prim.Native.Nat.{_<_, _-_}
 -- `reasons::halve::halfway` meets its contract: half goes on by one marked place while whole goes on by two.
 use Rattle.reasons.proofs.halve.halfway.Statement.{statement}
 use Rattle.reasons.proofs.halve.halfway.Tie as tie

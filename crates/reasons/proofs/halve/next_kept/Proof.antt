@@ -1,5 +1,5 @@
 use borrow.Author.Needs.{needs}
-use Rattle.reasons.proofs.AskLaws.{yes-follows, no-follows, lines-most}
+use Rattle.reasons.proofs.AskLaws.{yes-follows, no-follows}
 use Rattle.reasons.proofs.HalveLaws.{between-start, between-end, next-none}
 use Rattle.reasons.proofs.PrintedLaws.{follows-more}
 -- `reasons::halve::next_kept` meets its contract: the range of the next kept place is halved until it has one marked place.

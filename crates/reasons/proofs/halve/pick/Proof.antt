@@ -1,6 +1,6 @@
 use borrow.Author.Needs.{needs}
 use Rattle.reasons.proofs.AskLaws.{lines-most, fewer-taken}
-use Rattle.reasons.proofs.HalveLaws.{halved-start, halved-end, left-sixteen, left-on, left-next, next-up, next-most}
+use Rattle.reasons.proofs.HalveLaws.{halved-start, halved-end, left-on, left-next, next-up}
 use Rattle.reasons.proofs.PrintedLaws.{follows-more}
 use Rattle.reasons.proofs.OutLaws.{marks-length}
 use mathlib.Core.Path.{ap}
@@ -9,11 +9,10 @@ use Rattle.reasons.proofs.HalveLaws.{Left}
 use Rattle.pack.specs.Record.{linesOf}
 use Rattle.pack.specs.World.{Follows}
 use Rattle.pack.specs.Marks.{marked}
-use Rattle.bits.specs.Sets.{lowest}
 use native.Mathlib.Omega.{arith}
 use lib.ListN.{length}
-use mathlib.Core.Path.{_≡_, sym, _∙_}
-use Prim.Native.Nat.{_+_, _-_}
+use mathlib.Core.Path.{sym, _∙_}
+use Prim.Native.Nat.{_-_}
 use Rattle.reasons.proofs.halve.pick.Statement.{statement}
 use Rattle.reasons.proofs.halve.pick.Tie as tie
 

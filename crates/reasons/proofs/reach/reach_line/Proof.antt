@@ -1,5 +1,5 @@
 use Rattle.bits.proofs.Truth.{and-yes}
-use mathlib.Core.Path.{refl, sym, _∙_}
+use mathlib.Core.Path.{sym, _∙_}
 -- `reasons::reach::reach_line` meets its contract: with its right side, and off the marks that are left.
 use borrow.Author.Needs.{needs}
 use Rattle.reasons.proofs.reach.reach_line.Statement.{statement}

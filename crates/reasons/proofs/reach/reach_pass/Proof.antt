@@ -11,9 +11,9 @@ use Rattle.bits.proofs.SetLaws.{Lowest, lowest-is}
 use lib.Dec.{eqb}
 use lib.ListN.{length}
 use native.Mathlib.Omega.{arith}
-use mathlib.Core.Bool.{Bool, true, not, _&&_}
-use mathlib.Core.Path.{_≡_, refl, sym, ap, _∙_, subst}
-use Prim.Native.Nat.{ℕ, _+_, _-_, _<_}
+use mathlib.Core.Bool.{true, not, _&&_}
+use mathlib.Core.Path.{_≡_, sym, ap, _∙_, subst}
+use Prim.Native.Nat.{_-_, _<_}
 -- `reasons::reach::reach_pass` meets its contract: from one record that is left to the next.
 use Rattle.reasons.proofs.reach.reach_pass.Statement.{statement}
 use Rattle.reasons.proofs.reach.reach_pass.Tie as tie

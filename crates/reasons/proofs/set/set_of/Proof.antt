@@ -1,7 +1,6 @@
 use Rattle.reasons.proofs.AskLaws.{taken-sixteen}
 use Rattle.reasons.proofs.SetLaws.{same-words, inside-taken, inside-words, inside-follows, inside-set}
 -- `reasons::set::set_of` meets its contract: from the module, or nothing.
-use borrow.Author.Needs.{needs}
 use Rattle.reasons.proofs.set.set_of.Statement.{statement}
 use Rattle.reasons.proofs.set.set_of.Tie as tie
 
