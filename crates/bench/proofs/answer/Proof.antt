@@ -1,4 +1,6 @@
--- `bench::answer` meets its contract.
+use Rattle.bench.proofs.InputLaws.{input-fits}
+use mathlib.Core.Path.{sym, _∙_}
+-- `bench::answer` meets its contract: the pack that the question is about lies within the input.
 use borrow.Author.Needs.{needs}
 use Rattle.bench.proofs.answer.Statement.{statement}
 use Rattle.bench.proofs.answer.Tie as tie
@@ -28,7 +30,7 @@ part-ask-start : tie.Need-part-ask-start
 part-ask-start c = search needs
 
 part-ask-end : tie.Need-part-ask-end
-part-ask-end c = rw (c .before .input2 .given .1) at (c .before .before .before .read-input .ensures .1)
+part-ask-end c = rw (sym (c .before .before .before .read-input .ensures) ∙ c .before .input2 .given .1) at (input-fits (c .before .before .before .before .before .args .s .now))
 
 cast-ask-3 : tie.Need-cast-ask-3
 cast-ask-3 c = search needs

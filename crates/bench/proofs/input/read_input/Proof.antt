@@ -1,19 +1,15 @@
-use borrow.Author.Tests.{lt-ltb, le-ltb}
-use Rattle.bench.specs.Input.{inputOf}
-use Rattle.bench.proofs.InputLaws.{input-question}
+use Rattle.bench.proofs.InputLaws.{too-long, too-short, last-eight}
 use native.Mathlib.Omega.{arith}
--- `bench::input::read_input` meets its contract.
+-- `bench::input::read_input` meets its contract: by its length, then by its last 8 bytes.
 use borrow.Author.Needs.{needs}
 use Rattle.bench.proofs.input.read_input.Statement.{statement}
 use Rattle.bench.proofs.input.read_input.Tie as tie
 
 returns : tie.Need-returns
-unfolding inputOf
-returns c = (rw (lt-ltb _ _ (c .if1 .taken)), tt)
+returns c = too-long _ (c .if1 .taken)
 
 returns-2 : tie.Need-returns-2
-unfolding inputOf
-returns-2 c = (rw (le-ltb _ _ (c .before .if1 .left), lt-ltb _ _ (c .if2 .taken)), tt)
+returns-2 c = too-short _ (c .before .if1 .left) (c .if2 .taken)
 
 sub-at : tie.Need-sub-at
 sub-at c = search needs
@@ -31,7 +27,7 @@ read-question-requires : tie.Need-read-question-requires
 read-question-requires c κs = search needs
 
 returns-3 : tie.Need-returns-3
-returns-3 c = input-question _ _ (omega arith) (omega arith) (c .read-question .ensures)
+returns-3 c = last-eight _ (omega arith) (omega arith) _ (c .read-question .ensures)
 
 pub read-input-spec : {M : Type 1} → statement M
 read-input-spec =

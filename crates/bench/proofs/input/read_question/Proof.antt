@@ -1,4 +1,4 @@
-use borrow.Author.Tests.{eq-eqb, ne-eqb}
+use Rattle.bench.proofs.InputLaws.{not-0, not-5, not-6, not-7, all-zero}
 -- `bench::input::read_question` meets its contract: byte by byte.
 use borrow.Author.Needs.{needs}
 use Rattle.bench.proofs.input.read_question.Statement.{statement}
@@ -8,25 +8,25 @@ shared-slice-read-if1 : tie.Need-shared-slice-read-if1
 shared-slice-read-if1 c = search needs
 
 returns : tie.Need-returns
-returns c = rw (ne-eqb _ _ (c .if1 .taken))
+returns c = not-0 (c .before .before .args .q .now) (c .before .before .args .at) (c .if1 .taken)
 
 shared-slice-read-if2 : tie.Need-shared-slice-read-if2
 shared-slice-read-if2 c = search needs
 
 returns-2 : tie.Need-returns-2
-returns-2 c = rw (eq-eqb _ _ (c .before .before .if1 .left), ne-eqb _ _ (c .if2 .taken))
+returns-2 c = not-5 (c .before .before .before .before .args .q .now) (c .before .before .before .before .args .at) (c .if2 .taken)
 
 shared-slice-read-if3 : tie.Need-shared-slice-read-if3
 shared-slice-read-if3 c = search needs
 
 returns-3 : tie.Need-returns-3
-returns-3 c = rw (eq-eqb _ _ (c .before .before .before .before .if1 .left), eq-eqb _ _ (c .before .before .if2 .left), ne-eqb _ _ (c .if3 .taken))
+returns-3 c = not-6 (c .before .before .before .before .before .before .args .q .now) (c .before .before .before .before .before .before .args .at) (c .if3 .taken)
 
 shared-slice-read-if4 : tie.Need-shared-slice-read-if4
 shared-slice-read-if4 c = search needs
 
 returns-4 : tie.Need-returns-4
-returns-4 c = rw (eq-eqb _ _ (c .before .before .before .before .before .before .if1 .left), eq-eqb _ _ (c .before .before .before .before .if2 .left), eq-eqb _ _ (c .before .before .if3 .left), ne-eqb _ _ (c .if4 .taken))
+returns-4 c = not-7 (c .before .before .before .before .before .before .before .before .args .q .now) (c .before .before .before .before .before .before .before .before .args .at) (c .if4 .taken)
 
 shared-slice-read-t4 : tie.Need-shared-slice-read-t4
 shared-slice-read-t4 c = search needs
@@ -41,7 +41,7 @@ shared-slice-read-t15 : tie.Need-shared-slice-read-t15
 shared-slice-read-t15 c = search needs
 
 returns-5 : tie.Need-returns-5
-returns-5 c = rw (eq-eqb _ _ (c .before .before .before .before .before .before .before .before .before .before .if1 .left), eq-eqb _ _ (c .before .before .before .before .before .before .before .before .if2 .left), eq-eqb _ _ (c .before .before .before .before .before .before .if3 .left), eq-eqb _ _ (c .before .before .before .before .if4 .left))
+returns-5 c = all-zero (c .before .before .before .before .before .before .before .before .before .before .before .before .args .q .now) (c .before .before .before .before .before .before .before .before .before .before .before .before .args .at) (c .before .before .before .before .before .before .before .before .before .before .if1 .left) (c .before .before .before .before .before .before .before .before .if2 .left) (c .before .before .before .before .before .before .if3 .left) (c .before .before .before .before .if4 .left)
 
 pub read-question-spec : {M : Type 1} → statement M
 read-question-spec =
