@@ -1,6 +1,6 @@
 // Lines on standard output.
+use marks::look::next_marked;
 use pack::check::Refusal;
-use pack::marks::next_marked;
 
 // A word and a number.
 pub fn number_line(word: &[u8], number: u32) {

@@ -12,10 +12,14 @@ use lib.Count.{ones, ones-step, trailingZeros, under}
 use lib.Dec.{lit<, eqb}
 use lib.Pow.{shr-shr, pow-pos, shl-exact, shr-le}
 use borrow.Author.Tests.{eqb-true, eq-eqb, ne-eqb}
-use Rattle.bits.specs.Bit.{bit, has, withBit}
+use Rattle.bits.specs.Bit.{has, withBit}
 use Rattle.bits.specs.Sets.{lowest, countTo}
 use Rattle.bits.proofs.Truth.{true-and, or-false, never}
 use Rattle.bits.proofs.SetLaws.{Lowest, lowest-is, count-add, count-same}
+
+-- bit j of w, as a number
+unfoldable bit : ℕ → ℕ → ℕ
+bit w j = w / 2 ^ j % 2
 
 -- a bit as a number and as yes or no
 bit-lt : (w j : ℕ) → bit w j < 2
@@ -177,9 +181,27 @@ column-bits column row a y ha hy e j = ap (λ (w : ℕ). has w j) e ∙ rw (mod-
     go true = has-with column y j
     go false = sym (or-false (has column j))
 
+-- bit j mod 64 is bit j
+pub low : (w j : ℕ) {r : Bool} → j < 64 → r ≡ has w (j % 64) → r ≡ has w j
+low w j h e = e ∙ ap (has w) (mod-eq-of-lt h)
+
 -- the word with bit j alone, as `1 << j` computes it
 pub one-shl : (j : ℕ) → j < 64 → (1 * 2 ^ j) % 2 ^ 64 ≡ 2 ^ j
 one-shl j h = shl-exact {a = 1} 1 j 64 (lit< tt) (omega arith) ∙ one-mul (2 ^ j)
+
+-- x & !y has the bits of x that y lacks
+pub lacking-bits : (x y : ℕ) → x < 2 ^ 64 → y < 2 ^ 64 → (j : ℕ) → has (bitAnd x ((2 ^ 64 - 1) - y)) j ≡ (has x j && not (has y j))
+lacking-bits x y hx hy j = has-and x ((2 ^ 64 - 1) - y) j ∙ go (decLt j 64)
+  where
+    go : Dec (j < 64) → (has x j && has ((2 ^ 64 - 1) - y) j) ≡ (has x j && not (has y j))
+    go (yes l) = ap (λ (t : Bool). has x j && t) (has-not-word 64 y j hy l)
+    go (no l) = rw (has-high 64 x j hx (omega arith))
+
+-- a word without the bits of a word with one bit
+pub bit-off : (w v j r : ℕ) → v ≡ withBit 0 j → ((i : ℕ) → has r i ≡ (has w i && not (has v i))) → (i : ℕ) → has r i ≡ (has w i && not (eqb j i))
+bit-off w v j r e f i =
+    f i
+    ∙ ap (λ (t : Bool). has w i && not t) (ap (λ (x : ℕ). has x i) e ∙ has-with 0 j i ∙ ap (λ (t : Bool). t || eqb j i) (has-zero i))
 
 -- x & y, and x & !y: what it is for them to be 0
 pub meets-none : (x y : ℕ) → bitAnd x y ≡ 0 → (j : ℕ) → (has x j && has y j) ≡ false

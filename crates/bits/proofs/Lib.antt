@@ -1,5 +1,7 @@
 -- The laws, for the callers' proofs.
 pub mod Truth
 pub mod SetLaws
+pub mod ListLaws
 pub mod BitLaws
+pub mod RowLaws
 pub mod Promises

@@ -59,6 +59,14 @@ module _ (p : ℕ → Bool) where
   pub lowest-at : {i c r : ℕ} → Lowest p i c r → r ≡ lowest p i c
   lowest-at {i} {c} a = lowest-only a (lowest-is i c)
 
+  -- a number of p from i on is no lower than what the search finds
+  pub lowest-least : {i c r : ℕ} → Lowest p i c r → (q : ℕ) → i ≤ q → p q ≡ true → r ≤ q
+  lowest-least {i} {c} {r} a q h g = go (decLt q r)
+    where
+      go : Dec (q < r) → r ≤ q
+      go (yes l) = never g (a .none q h l)
+      go (no l) = omega arith
+
   -- a search that has come past some numbers goes on as it began
   pub lowest-on : (i k : ℕ) → i < k → p i ≡ false → lowest p i (k - i) ≡ lowest p (i + 1) (k - (i + 1))
   unfolding lowest
@@ -166,3 +174,29 @@ count-le p (suc c) = go (p c) (count-le p c)
     go : (t : Bool) → countTo p c ≤ c → countTo p c + cond t 1 0 ≤ suc c
     go true h = omega arith
     go false h = omega arith
+
+-- of two sets of numbers, one within the other, the count of the smaller is no more; and it is less where a number is missing
+module _ (p q : ℕ → Bool) (h : (j : ℕ) → p j ≡ true → q j ≡ true) where
+  pub count-fewer : (c : ℕ) → countTo p c ≤ countTo q c
+  unfolding countTo
+  count-fewer zero = omega arith
+  count-fewer (suc c) = go (p c) (q c) (h c) (count-fewer c)
+    where
+      go : (t u : Bool) → (t ≡ true → u ≡ true) → countTo p c ≤ countTo q c → countTo p c + cond t 1 0 ≤ countTo q c + cond u 1 0
+      go true u f l = rw (f refl) (omega arith)
+      go false true f l = omega arith
+      go false false f l = omega arith
+
+  pub count-less : (c k : ℕ) → k < c → p k ≡ false → q k ≡ true → countTo p c < countTo q c
+  unfolding countTo
+  count-less zero k l e g = absurd (omega arith)
+  count-less (suc c) k l e g = go (ℕ-discrete k c) (p c) (q c) refl refl (count-fewer c) (λ l. count-less c k l e g)
+    where
+      go : Dec (k ≡ c) → (t u : Bool) → p c ≡ t → q c ≡ u → countTo p c ≤ countTo q c → (k < c → countTo p c < countTo q c) → countTo p c + cond t 1 0 < countTo q c + cond u 1 0
+      go (yes z) true u e₁ e₂ w f = never e₁ (ap p (sym z) ∙ e)
+      go (yes z) false true e₁ e₂ w f = omega arith
+      go (yes z) false false e₁ e₂ w f = never (ap q (sym z) ∙ g) e₂
+      go (no z) true true e₁ e₂ w f = omega (arith, f (omega arith))
+      go (no z) true false e₁ e₂ w f = never (h c e₁) e₂
+      go (no z) false true e₁ e₂ w f = omega (arith, f (omega arith))
+      go (no z) false false e₁ e₂ w f = omega (arith, f (omega arith))

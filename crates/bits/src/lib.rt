@@ -1,6 +1,6 @@
 // Bits of a 64-bit word. Callers go by the laws of proofs/BitLaws.antt and never unfold `has`.
 ghost use mathlib.Core.Path.{_≡_};
-ghost use mathlib.Core.Bool.{cond, not, _&&_};
+ghost use mathlib.Core.Bool.{cond, not, _&&_, _||_};
 ghost use Prim.Native.Nat.{ℕ, _-_, _%_};
 ghost use lib.Dec.{eqb};
 ghost use Rattle.bits.specs.Bit.{has, withBit};
@@ -18,6 +18,27 @@ pub fn with_bit(w: u64, j: usize) -> u64
     ensures { λ r. ⌜ r ≡ withBit w (j % 64) ⌝ }
 {
     w | (1 << (j % 64))
+}
+
+// w with bit j mod 64 cleared.
+pub fn without_bit(w: u64, j: usize) -> u64
+    ensures { λ r. ⌜ ((i : ℕ) → has r i ≡ (has w i && not (eqb (j % 64) i))) ⌝ }
+{
+    lacking(w, with_bit(0, j))
+}
+
+// The bits of w that v lacks.
+pub fn lacking(w: u64, v: u64) -> u64
+    ensures { λ r. ⌜ ((j : ℕ) → has r j ≡ (has w j && not (has v j))) ⌝ }
+{
+    w & !v
+}
+
+// The bits of either word.
+pub fn either(w: u64, v: u64) -> u64
+    ensures { λ r. ⌜ ((j : ℕ) → has r j ≡ (has w j || has v j)) ⌝ }
+{
+    w | v
 }
 
 // A column of a table of bits, with bit y mod 64 set too where the row of y has bit a mod 64.

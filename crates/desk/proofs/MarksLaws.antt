@@ -1,41 +1,36 @@
--- Laws of marks out for C: words put into their bytes one after the other, marks that are not 128 bytes, and the answers of the module and of the set.
+-- Laws of out marks for C: words put into their bytes one after the other, and the answers of the module and of the set.
 use mathlib.Core.Path.{_≡_, refl, sym, ap, _∙_}
-use mathlib.Core.Bool.{Bool, true, false, cond, not, _||_}
-use mathlib.Core.List.{List, [], _++_, map, flatten, append-nil}
+use mathlib.Core.List.{List, _++_, map, flatten, append-nil}
 use Prim.Native.Nat.{ℕ, _+_, _-_, _*_, _^_, _≤_, _<_}
 use native.Mathlib.Nat.{zero-add}
 use native.Mathlib.Numerals.{add-one}
 use native.Mathlib.Omega.{arith}
-use lib.Dec.{eqb}
 use lib.ListN.{length, getD, take, drop, length-append, length-drop, drop-of-length-le}
 use lib.Seq.{take-suc, take-all, length-take-le, ext-getD}
-use borrow.Author.Tests.{eq-eqb, eqb-true}
-use Rattle.bits.proofs.Truth.{never}
+use borrow.Author.Tests.{eq-eqb}
 use borrow.Rule.Slice.PartMut.{putMid, post-is}
 use Rattle.pack.specs.declared.check.Checked.{Checked}
 use Rattle.pack.specs.declared.check.Checked.the-variants.{Refused, Count}
-use Rattle.pack.specs.declared.check.Refusal.{Refusal}
 use Rattle.pack.specs.Answers.{checkedNumber, checkedValue}
-use Rattle.pack.specs.Bytes.{wordIn, part, listed, wordsIn, marksIn}
-use Rattle.pack.specs.Marks.{marked, counted, markCount}
-use Rattle.pack.specs.Question.{checkQuestion, Taken}
+use Rattle.pack.specs.Bytes.{wordIn, part, wordsIn, marksIn}
+use Rattle.bits.specs.Lists.{listed}
+use Rattle.marks.specs.Marks.{marked, markCount, marksOf}
+use Rattle.pack.specs.Question.{counted, Taken}
 use Rattle.pack.specs.World.{Follows}
 use Rattle.pack.specs.Record.{linesOf}
-use Rattle.pack.proofs.Parts.{listed-length, listed-at}
-use Rattle.pack.proofs.QuestionLaws.{asked}
+use Rattle.bits.proofs.ListLaws.{listed-length, listed-at}
 use Rattle.engine.specs.Sheet.{wordBytes}
 use Rattle.engine.proofs.BytesLaws.{parts-length, parts-all, parts-on, word-length, word-in, with-part}
-use Rattle.reasons.specs.OutMarks.{marksOf, marksBoth}
 use Rattle.reasons.specs.Reach.{moduleOf}
-use Rattle.reasons.specs.Module.{moduleMarks, marksLeft, askModule, writtenModule}
-use Rattle.reasons.proofs.ModuleLaws.{MarksModule, module-written, module-refused, module-right, module-length}
+use Rattle.reasons.specs.Module.{moduleMarks, moduleOut, askModule, writtenModule}
+use Rattle.reasons.proofs.ModuleLaws.{MarksModule, module-written, module-right, module-length}
 use Rattle.reasons.specs.declared.set.SetAnswer.{SetAnswer}
 use Rattle.reasons.specs.declared.set.SetAnswer.the-variants as sets
 use Rattle.reasons.specs.Printed.{IsPrinted, printed}
-use Rattle.reasons.specs.Set.{setNumber, setValue, setWords, setLeft, askSet, writtenSet}
-use Rattle.reasons.proofs.SetLaws.{set-refused, set-length}
+use Rattle.reasons.specs.Set.{setNumber, setValue, setMarks, setOut, askSet, writtenSet}
+use Rattle.reasons.proofs.SetLaws.{set-length}
 use Rattle.reasons.proofs.SetRight.{set-found, set-printed}
-use Rattle.reasons.proofs.OutLaws.{marks-length, marks-small}
+use Rattle.marks.proofs.WordLaws.{marks-length, marks-small}
 use Rattle.desk.specs.Desk.{deskCode, wordsBytes, askModuleC, moduleCode, moduleBytes, setCode, setBytes}
 
 -- the bytes of the first j words, and what stands after them
@@ -77,80 +72,44 @@ bytes-back ws sixteen small =
     ∙ ap wordIn (parts-all wordBytes word-length ws j 0 (omega arith))
     ∙ word-in (getD ws j 0) (small j l)))
 
--- WHERE MARKS IN OR OUT ARE NOT 128 BYTES, no words are judged, and the question is refused
-pub unread-both : (marks out : List ℕ) → (not (eqb (length marks) 128) || not (eqb (length out) 128)) ≡ true → marksBoth (marksIn marks) (marksIn out) ≡ []
-unread-both marks out = go (eqb (length marks) 128) (eqb (length out) 128)
-  where
-    none : (t : Bool) → _≡_ {A = List ℕ} (cond t [] []) []
-    none true = refl
-    none false = refl
-
-    go : (t u : Bool) → (not t || not u) ≡ true → marksBoth (cond t (wordsIn marks) []) (cond u (wordsIn out) []) ≡ []
-    go true true h = never h refl
-    go true false h = refl
-    go false u h = none (eqb (length (cond u (wordsIn out) [])) 16)
-
-pub read-both : (marks out : ℕ) → (not (eqb marks 128) || not (eqb out 128)) ≡ false → (marks ≡ 128) × (out ≡ 128)
-read-both marks out = go (eqb marks 128) (eqb out 128) refl refl
-  where
-    go : (t u : Bool) → eqb marks 128 ≡ t → eqb out 128 ≡ u → (not t || not u) ≡ false → (marks ≡ 128) × (out ≡ 128)
-    go true true e f h = (eqb-true marks 128 e, eqb-true out 128 f)
-    go true false e f h = never refl h
-    go false u e f h = never refl h
-
-pub unread-refused : (n m : ℕ) (s : List ℕ) (a b : ℕ) → (why : Refusal) × (checkQuestion n m s [] a b ≡ Refused why)
-unread-refused n m s a b = go (checkQuestion n m s [] a b) refl
-  where
-    go : (r : Checked) → checkQuestion n m s [] a b ≡ r → (why : Refusal) × (checkQuestion n m s [] a b ≡ Refused why)
-    go (Refused why) e = (why, e)
-    go (Count k) e = absurd (let six = asked n m s [] a b e .marks .sixteen in omega arith)
-
 -- bytes of the right length are 16 words
 pub read-length : (out : List ℕ) → length out ≡ 128 → length (marksIn out) ≡ 16
 unfolding wordsIn
 read-length out h = rw (eq-eqb (length out) 128 h) (listed-length (λ j. wordIn (part out j)) 16 0)
 
--- OF A CALL WITH MARKS OUT, whose answer goes by their length alone: what it makes of 16 words of any content is what it makes of the bytes
-module _ {A : Type 0} (left : A → List ℕ → List ℕ → List ℕ) (again : (t : A) (ours blank after : List ℕ) → left t (wordsBytes (left t ours blank)) after ≡ left t (wordsBytes ours) after) (number value : A → ℕ)
+-- OF A CALL WITH OUT MARKS, whose answer goes by their length alone: what it makes of 16 words of any content is what it makes of the bytes
+module _ {A : Type 0} (outOf : A → List ℕ → List ℕ → List ℕ) (again : (t : A) (ours blank after : List ℕ) → outOf t (wordsBytes (outOf t ours blank)) after ≡ outOf t (wordsBytes ours) after) (number value : A → ℕ)
     (ask : List ℕ → List ℕ → A) (ours : List ℕ → List ℕ) (same-length : (ws out out′ : List ℕ) → length out ≡ length out′ → ask ws out ≡ ask ws out′) (marks out : List ℕ) where
   pub call-read : {r : ℕ} {answer : A} {after found : List ℕ} (blank : List ℕ) → length marks ≡ 128 → length out ≡ 128 → length blank ≡ 16
-      → answer ≡ ask (wordsIn marks) blank → found ≡ left (ask (wordsIn marks) blank) (ours (wordsIn marks)) blank
-      → r ≡ deskCode (number answer) (value answer) → after ≡ left answer (wordsBytes found) out
-      → (r ≡ deskCode (number (ask (marksIn marks) (marksIn out))) (value (ask (marksIn marks) (marksIn out)))) × (after ≡ left (ask (marksIn marks) (marksIn out)) (wordsBytes (ours (marksIn marks))) out)
+      → answer ≡ ask (wordsIn marks) blank → found ≡ outOf (ask (wordsIn marks) blank) (ours (wordsIn marks)) blank
+      → r ≡ deskCode (number answer) (value answer) → after ≡ outOf answer (wordsBytes found) out
+      → (r ≡ deskCode (number (ask (marksIn marks) (marksIn out))) (value (ask (marksIn marks) (marksIn out)))) × (after ≡ outOf (ask (marksIn marks) (marksIn out)) (wordsBytes (ours (marksIn marks))) out)
   call-read {r} {answer} {after} {found} blank hm ho hb e f g h =
       let words : marksIn marks ≡ wordsIn marks = rw (eq-eqb (length marks) 128 hm) in
       let same : answer ≡ ask (marksIn marks) (marksIn out) = e ∙ same-length (wordsIn marks) blank (marksIn out) (hb ∙ sym (read-length out ho)) ∙ ap (λ (ws : List ℕ). ask ws (marksIn out)) (sym words) in (
         g ∙ ap (λ (t : A). deskCode (number t) (value t)) same,
         h
-            ∙ ap (λ (l : List ℕ). left answer (wordsBytes l) out) (f ∙ ap (λ (t : A). left t (ours (wordsIn marks)) blank) (sym e))
+            ∙ ap (λ (l : List ℕ). outOf answer (wordsBytes l) out) (f ∙ ap (λ (t : A). outOf t (ours (wordsIn marks)) blank) (sym e))
             ∙ again answer (ours (wordsIn marks)) blank out
-            ∙ ap (λ (t : A). left t (wordsBytes (ours (wordsIn marks))) out) same
-            ∙ ap (λ (ws : List ℕ). left (ask (marksIn marks) (marksIn out)) (wordsBytes (ours ws)) out) (sym words),
+            ∙ ap (λ (t : A). outOf t (wordsBytes (ours (wordsIn marks))) out) same
+            ∙ ap (λ (ws : List ℕ). outOf (ask (marksIn marks) (marksIn out)) (wordsBytes (ours ws)) out) (sym words),
       )
 
 module _ (n m : ℕ) (s marks : List ℕ) (a : ℕ) (out : List ℕ) where
-  pub module-unread : {r : ℕ} → marksBoth (marksIn marks) (marksIn out) ≡ [] → r ≡ deskCode (checkedNumber (checkQuestion n m s [] a a)) (checkedValue (checkQuestion n m s [] a a))
-      → (r ≡ moduleCode n m s marks a out) × (out ≡ moduleBytes n m s marks a out)
-  unfolding moduleCode moduleBytes
-  module-unread e h =
-      let u = unread-refused n m s a a in
-      let t = module-refused n m s (marksIn marks) a (marksIn out) (ap (λ (ws : List ℕ). checkQuestion n m s ws a a) e ∙ u .1) in
-      (rw (t .0) (rw (u .1) at h), rw (t .0))
-
   -- THE MODULE FROM ITS WORDS, found in 16 words of any content
   pub module-read : {r : ℕ} {answer : Checked} {after found : List ℕ} (blank : List ℕ) → length marks ≡ 128 → length out ≡ 128 → length blank ≡ 16
       → answer ≡ askModule n m s (wordsIn marks) a blank → found ≡ writtenModule n m s (wordsIn marks) a blank
-      → r ≡ deskCode (checkedNumber answer) (checkedValue answer) → after ≡ marksLeft answer (wordsBytes found) out
+      → r ≡ deskCode (checkedNumber answer) (checkedValue answer) → after ≡ moduleOut answer (wordsBytes found) out
       → (r ≡ moduleCode n m s marks a out) × (after ≡ moduleBytes n m s marks a out)
   unfolding moduleCode moduleBytes writtenModule
   module-read =
-      call-read marksLeft left checkedNumber checkedValue (λ ws. askModule n m s ws a) (λ ws. moduleMarks n m s ws a) (λ ws. module-length n m s ws a) marks out
+      call-read moduleOut again checkedNumber checkedValue (λ ws. askModule n m s ws a) (λ ws. moduleMarks n m s ws a) (λ ws. module-length n m s ws a) marks out
     where
-      left : (t : Checked) (ours blank after : List ℕ) → marksLeft t (wordsBytes (marksLeft t ours blank)) after ≡ marksLeft t (wordsBytes ours) after
-      left (Refused why) ours blank after = refl
-      left (Count k) ours blank after = refl
+      again : (t : Checked) (ours blank after : List ℕ) → moduleOut t (wordsBytes (moduleOut t ours blank)) after ≡ moduleOut t (wordsBytes ours) after
+      again (Refused why) ours blank after = refl
+      again (Count k) ours blank after = refl
 
-  -- THE MODULE CALL FOR C IS RIGHT: where it counts, the bytes out, read as marks, mark exactly the module, and so many places
+  -- THE MODULE CALL FOR C IS RIGHT: where it counts, the out bytes, read as marks, mark exactly the module, and so many places
   pub module-call-right : {k : ℕ} → askModuleC n m s marks a out ≡ Count k → MarksModule s (marksIn marks) a k (marksIn (moduleBytes n m s marks a out))
   unfolding moduleBytes
   module-call-right {k} e =
@@ -159,30 +118,22 @@ module _ (n m : ℕ) (s marks : List ℕ) (a : ℕ) (out : List ℕ) where
       rw (e, bytes-back (marksOf M) (marks-length M) (marks-small M)) (rw (module-written n m s (marksIn marks) a (marksIn out) e) at right)
 
 module _ (n m : ℕ) (s marks : List ℕ) (a b : ℕ) (out : List ℕ) where
-  pub set-unread : {r : ℕ} → marksBoth (marksIn marks) (marksIn out) ≡ [] → r ≡ deskCode (checkedNumber (checkQuestion n m s [] a b)) (checkedValue (checkQuestion n m s [] a b))
-      → (r ≡ setCode n m s marks a b out) × (out ≡ setBytes n m s marks a b out)
-  unfolding setCode setBytes
-  set-unread e h =
-      let u = unread-refused n m s a b in
-      let t = set-refused n m s (marksIn marks) a b (marksIn out) (ap (λ (ws : List ℕ). checkQuestion n m s ws a b) e ∙ u .1) in
-      (rw (t .0) (rw (u .1) at h), rw (t .0))
-
   -- THE PRINTED SET FROM ITS WORDS
   pub set-read : {r : ℕ} {answer : SetAnswer} {after found : List ℕ} (blank : List ℕ) → length marks ≡ 128 → length out ≡ 128 → length blank ≡ 16
       → answer ≡ askSet n m s (wordsIn marks) a b blank → found ≡ writtenSet n m s (wordsIn marks) a b blank
-      → r ≡ deskCode (setNumber answer) (setValue answer) → after ≡ setLeft answer (wordsBytes found) out
+      → r ≡ deskCode (setNumber answer) (setValue answer) → after ≡ setOut answer (wordsBytes found) out
       → (r ≡ setCode n m s marks a b out) × (after ≡ setBytes n m s marks a b out)
   unfolding setCode setBytes writtenSet
   set-read =
-      call-read setLeft left setNumber setValue (λ ws. askSet n m s ws a b) (λ ws. setWords n m s ws a b) (λ ws. set-length n m s ws a b) marks out
+      call-read setOut again setNumber setValue (λ ws. askSet n m s ws a b) (λ ws. setMarks n m s ws a b) (λ ws. set-length n m s ws a b) marks out
     where
-      left : (t : SetAnswer) (ours blank after : List ℕ) → setLeft t (wordsBytes (setLeft t ours blank)) after ≡ setLeft t (wordsBytes ours) after
-      left (sets.Refused why) ours blank after = refl
-      left sets.TooLong ours blank after = refl
-      left sets.NotFollows ours blank after = refl
-      left (sets.Count k) ours blank after = refl
+      again : (t : SetAnswer) (ours blank after : List ℕ) → setOut t (wordsBytes (setOut t ours blank)) after ≡ setOut t (wordsBytes ours) after
+      again (sets.Refused why) ours blank after = refl
+      again sets.TooLong ours blank after = refl
+      again sets.NotFollows ours blank after = refl
+      again (sets.Count k) ours blank after = refl
 
-  -- THE SET CALL FOR C IS RIGHT: where the goal follows, the bytes out, read as marks, mark the printed set, and so many places
+  -- THE SET CALL FOR C IS RIGHT: where the goal follows, the out bytes, read as marks, mark the printed set, and so many places
   pub set-call-right : Taken n m s (marksIn marks) a b → length out ≡ 128 → Follows (linesOf s) (counted s (marksIn marks)) a b
       → IsPrinted (linesOf s) (counted s (marksIn marks)) a b (marked (marksIn (setBytes n m s marks a b out))) × (setCode n m s marks a b out ≡ deskCode 0 (markCount (marksIn (setBytes n m s marks a b out))))
   unfolding setCode setBytes

@@ -11,9 +11,9 @@ use Rattle.engine.specs.declared.write.SheetAnswer.the-variants as answer
 use Rattle.engine.specs.Answers.{verdictNumber, verdictValue, sheetNumber}
 use Rattle.engine.specs.Sheet.{wordBytes, askSheet}
 use Rattle.engine.specs.Verdict.{askVerdict}
-use Rattle.reasons.specs.Module.{moduleMarks, marksLeft, askModule}
+use Rattle.reasons.specs.Module.{moduleMarks, moduleOut, askModule}
 use Rattle.reasons.specs.declared.set.SetAnswer.{SetAnswer}
-use Rattle.reasons.specs.Set.{setNumber, setValue, setWords, setLeft, askSet}
+use Rattle.reasons.specs.Set.{setNumber, setValue, setMarks, setOut, askSet}
 
 abbrev pub deskCode : ℕ → ℕ → ℕ
 deskCode number value = number + 256 * value
@@ -35,17 +35,17 @@ sheetValueC (answer.Refused why) = refusalPlace why
 sheetValueC answer.TooLong = 0
 sheetValueC (answer.NoRoom k) = k
 sheetValueC (answer.Follows k) = 2 * k + 1
-sheetValueC (answer.Not k) = 2 * k + 0
+sheetValueC (answer.Not k) = 2 * k
 
 unfoldable pub sheetCode : ℕ → ℕ → List ℕ → List ℕ → ℕ → ℕ → List ℕ → ℕ
 sheetCode n m s marks a b sheet =
     deskCode (sheetNumber (askSheet n m s (marksIn marks) a b sheet)) (sheetValueC (askSheet n m s (marksIn marks) a b sheet))
 
--- marks out as bytes, each word's low byte first
+-- out marks as bytes, each word's low byte first
 unfoldable pub wordsBytes : List ℕ → List ℕ
 wordsBytes ws = flatten (map wordBytes ws)
 
--- the marks out are judged like the marks in: bytes of another length are no words
+-- the out marks are judged like the marks in: bytes of another length are no words
 abbrev pub askModuleC : ℕ → ℕ → List ℕ → List ℕ → ℕ → List ℕ → Checked
 askModuleC n m s marks a out = askModule n m s (marksIn marks) a (marksIn out)
 
@@ -53,9 +53,9 @@ unfoldable pub moduleCode : ℕ → ℕ → List ℕ → List ℕ → ℕ → Li
 moduleCode n m s marks a out =
     deskCode (checkedNumber (askModuleC n m s marks a out)) (checkedValue (askModuleC n m s marks a out))
 
--- the bytes out afterwards: those of the module's marks, or, on a refusal, as they were
+-- the out bytes afterwards: those of the module's marks, or, on a refusal, as they were
 unfoldable pub moduleBytes : ℕ → ℕ → List ℕ → List ℕ → ℕ → List ℕ → List ℕ
-moduleBytes n m s marks a out = marksLeft (askModuleC n m s marks a out) (wordsBytes (moduleMarks n m s (marksIn marks) a)) out
+moduleBytes n m s marks a out = moduleOut (askModuleC n m s marks a out) (wordsBytes (moduleMarks n m s (marksIn marks) a)) out
 
 -- the printed set in the same way
 abbrev pub askSetC : ℕ → ℕ → List ℕ → List ℕ → ℕ → ℕ → List ℕ → SetAnswer
@@ -65,4 +65,4 @@ unfoldable pub setCode : ℕ → ℕ → List ℕ → List ℕ → ℕ → ℕ �
 setCode n m s marks a b out = deskCode (setNumber (askSetC n m s marks a b out)) (setValue (askSetC n m s marks a b out))
 
 unfoldable pub setBytes : ℕ → ℕ → List ℕ → List ℕ → ℕ → ℕ → List ℕ → List ℕ
-setBytes n m s marks a b out = setLeft (askSetC n m s marks a b out) (wordsBytes (setWords n m s (marksIn marks) a b)) out
+setBytes n m s marks a b out = setOut (askSetC n m s marks a b out) (wordsBytes (setMarks n m s (marksIn marks) a b)) out

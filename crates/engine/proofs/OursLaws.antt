@@ -21,8 +21,7 @@ use Rattle.pack.specs.declared.check.Checked.the-variants as checked
 use Rattle.pack.specs.declared.line.Fact.the-variants.{In}
 use Rattle.pack.specs.declared.line.Step.{Step}
 use Rattle.pack.specs.Bytes.{part}
-use Rattle.pack.specs.Marks.{counted}
-use Rattle.pack.specs.Question.{checkQuestion}
+use Rattle.pack.specs.Question.{counted, checkQuestion}
 use Rattle.pack.specs.Record.{linesOf}
 use Rattle.pack.specs.World.{World, Is, Obeys, Follows}
 use Rattle.pack.proofs.RecordLaws.{lines-length}
@@ -43,7 +42,7 @@ use Rattle.engine.specs.declared.verdict.VerdictAnswer.the-variants as v
 use Rattle.engine.specs.declared.write.SheetAnswer.{SheetAnswer}
 use Rattle.engine.specs.declared.write.SheetAnswer.the-variants as sheets
 use Rattle.engine.specs.Verdict.{follows, askVerdict}
-use Rattle.engine.specs.Sheet.{yesBytes, noBytes, ourSheet, sheetAnswer, sheetAfter, askSheet, sheetLeft, writtenSheet}
+use Rattle.engine.specs.Sheet.{yesBytes, noBytes, ourSheet, sheetAnswer, sheetAfter, askSheet, sheetOut, writtenSheet}
 use Rattle.engine.proofs.VerdictLaws.{question, valid, too-long-never}
 use Rattle.engine.proofs.BytesLaws.{parts-length, parts-all, zeros-in, step-in, steps-of, rows-of, yes-length, no-length}
 
@@ -183,7 +182,7 @@ module _ (n m : ℕ) (s ws : List ℕ) (a b : ℕ) (sheet : List ℕ) where
   joined = after (checkQuestion n m s ws a b) refl
     where
       shown : {k : ℕ} → checkQuestion n m s ws a b ≡ checked.Count k → (t room : Bool) → follows n m s ws a b ≡ t → leb (length (cond t (yesBytes n m s ws a b) (noBytes n m s ws))) (length sheet) ≡ room
-          → let ours = cond t (yesBytes n m s ws a b) (noBytes n m s ws) in let r = sheetAnswer t (length ours / 8) room in Shows r (sheetLeft r ours sheet)
+          → let ours = cond t (yesBytes n m s ws a b) (noBytes n m s ws) in let r = sheetAnswer t (length ours / 8) room in Shows r (sheetOut r ours sheet)
       shown e true true f g =
           let ours = yesBytes n m s ws a b in
           let l = yes-length n m s ws a b in
@@ -201,7 +200,7 @@ module _ (n m : ℕ) (s ws : List ℕ) (a b : ℕ) (sheet : List ℕ) where
           let less = leb-false (length (noBytes n m s ws)) (length sheet) g in
           rw f (omega arith, omega arith)
 
-      after : (q : Checked) → checkQuestion n m s ws a b ≡ q → Shows (sheetAfter q n m s ws a b sheet) (sheetLeft (sheetAfter q n m s ws a b sheet) (ourSheet n m s ws a b) sheet)
+      after : (q : Checked) → checkQuestion n m s ws a b ≡ q → Shows (sheetAfter q n m s ws a b sheet) (sheetOut (sheetAfter q n m s ws a b sheet) (ourSheet n m s ws a b) sheet)
       after (checked.Refused why) e = e
       after (checked.Count k) e = rw (too-long-never n m s ws a b e) (shown e (follows n m s ws a b) (leb (length (ourSheet n m s ws a b)) (length sheet)) refl refl)
 

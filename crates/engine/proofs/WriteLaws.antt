@@ -12,7 +12,7 @@ use lib.Seq.{take-at, drop-append-add, drop-drop, ext-getD}
 use lib.Dec.{leb}
 use borrow.Author.Tests.{le-leb, lt-leb, lt-ltb, le-ltb, eq-eqb}
 use borrow.Rule.Slice.PartMut.{putMid, post-is}
-use Rattle.bits.specs.Bit.{has}
+use Rattle.bits.specs.Bit.{has, row}
 use Rattle.bits.proofs.BitLaws.{has-high}
 use Rattle.bits.proofs.Truth.{never}
 use Rattle.pack.specs.declared.check.Checked.the-variants as checked
@@ -20,7 +20,7 @@ use Rattle.pack.specs.declared.line.Fact.{Fact}
 use Rattle.pack.specs.declared.line.Fact.the-variants.{In, Link}
 use Rattle.pack.specs.declared.line.Line.{Line}
 use Rattle.pack.specs.declared.line.Step.{Step}
-use Rattle.pack.specs.Marks.{counted}
+use Rattle.pack.specs.Question.{counted, checkQuestion}
 use Rattle.pack.specs.Record.{linesOf}
 use Rattle.pack.specs.Rules.{free}
 use Rattle.pack.proofs.QuestionLaws.{Asked}
@@ -28,19 +28,17 @@ use Rattle.tables.specs.Tables.{held, heldIn, heldLink}
 use Rattle.passes.specs.Saturation.{holds}
 use Rattle.passes.specs.Passes.{el, finished, table}
 use Rattle.passes.specs.Ours.{ourSteps, ourRows}
-use Rattle.passes.specs.Rows.{row}
-use Rattle.passes.proofs.RowLaws.{row-only}
+use Rattle.bits.proofs.RowLaws.{row-only}
 use Rattle.passes.proofs.NoLaws.{row-concepts, row-links}
 use Rattle.passes.proofs.NoLaws as ours
 use Rattle.passes.proofs.StopLaws.{ours-none, goal-free}
 use Rattle.sweep.specs.Inner.{Agree}
 use Rattle.sweep.specs.Writing.{stepBytes}
-use Rattle.pack.specs.Question.{checkQuestion}
-use Rattle.pack.specs.Bytes.{listed}
-use Rattle.pack.proofs.Parts.{listed-length, listed-at, listed-snoc}
+use Rattle.bits.specs.Lists.{listed}
+use Rattle.bits.proofs.ListLaws.{listed-length, listed-at, listed-snoc}
 use Rattle.engine.specs.declared.write.SheetAnswer.{SheetAnswer}
 use Rattle.engine.specs.declared.write.SheetAnswer.the-variants as answer
-use Rattle.engine.specs.Sheet.{wordBytes, yesBytes, noBytes, ourSheet, sheetAnswer, sheetLeft, askSheet, writtenSheet}
+use Rattle.engine.specs.Sheet.{wordBytes, yesBytes, noBytes, ourSheet, sheetAnswer, sheetOut, askSheet, writtenSheet}
 use Rattle.engine.specs.Verdict.{follows}
 use Rattle.engine.specs.Inner.{Ran, rowIn, rowsBytes}
 use Rattle.engine.proofs.VerdictLaws.{question, too-long-never, end-held, end-not}
@@ -221,7 +219,7 @@ module _ (n m : ℕ) (s ws : List ℕ) (a b : ℕ) {c : ℕ} (taken : checkQuest
 
   -- OUR NO SHEET, written from the rows
   pub no-sheet : (differ : a ≡ b → ⊥) (blank cs lks blank′ : List ℕ) (k : ℕ) → Ran n m true (In a b) (free n) (linesOf s) blank (finished (linesOf s) (counted s ws) n m) cs lks blank′ k → held cs lks (In a b) ≡ false
-      → {r : SheetAnswer} {after : List ℕ} → r ≡ sheetAnswer false (n * (1 + m)) (leb (n * (1 + m) * 8) (length sheet)) → after ≡ sheetLeft r (rowsBytes n (n * (1 + m)) cs lks) sheet
+      → {r : SheetAnswer} {after : List ℕ} → r ≡ sheetAnswer false (n * (1 + m)) (leb (n * (1 + m) * 8) (length sheet)) → after ≡ sheetOut r (rowsBytes n (n * (1 + m)) cs lks) sheet
       → (n * (1 + m) * 8 ≤ length sheet → (i : ℕ) → i < n * (1 + m) → rowIn n cs lks i < 2 ^ 64) → Answers n m s ws a b taken sheet r after
   unfolding noBytes rowsBytes
   no-sheet differ blank cs lks blank′ k ran h {r} {after} e f words = go (decLt (length sheet) (n * (1 + m) * 8))

@@ -6,9 +6,8 @@ use lib.Dec.{leb}
 use lib.ListN.{length, drop}
 use Rattle.pack.specs.declared.check.Checked.{Checked}
 use Rattle.pack.specs.declared.check.Checked.the-variants as checked
-use Rattle.pack.specs.Bytes.{listed}
-use Rattle.pack.specs.Marks.{counted}
-use Rattle.pack.specs.Question.{checkQuestion}
+use Rattle.bits.specs.Lists.{listed}
+use Rattle.pack.specs.Question.{counted, checkQuestion}
 use Rattle.pack.specs.Record.{linesOf}
 use Rattle.passes.specs.Ours.{ourSteps, ourRows}
 use Rattle.sweep.specs.Writing.{stepBytes}
@@ -46,12 +45,12 @@ unfoldable pub askSheet : ℕ → ℕ → List ℕ → List ℕ → ℕ → ℕ 
 askSheet n m s ws a b sheet = sheetAfter (checkQuestion n m s ws a b) n m s ws a b sheet
 
 -- the lent sheet afterwards: our sheet from its start and the rest as it was; or, on a refusal, as it was
-abbrev pub sheetLeft : SheetAnswer → List ℕ → List ℕ → List ℕ
-sheetLeft (answer.Refused why) ours sheet = sheet
-sheetLeft answer.TooLong ours sheet = sheet
-sheetLeft (answer.NoRoom k) ours sheet = sheet
-sheetLeft (answer.Follows k) ours sheet = ours ++ drop (length ours) sheet
-sheetLeft (answer.Not k) ours sheet = ours ++ drop (length ours) sheet
+abbrev pub sheetOut : SheetAnswer → List ℕ → List ℕ → List ℕ
+sheetOut (answer.Refused why) ours sheet = sheet
+sheetOut answer.TooLong ours sheet = sheet
+sheetOut (answer.NoRoom k) ours sheet = sheet
+sheetOut (answer.Follows k) ours sheet = ours ++ drop (length ours) sheet
+sheetOut (answer.Not k) ours sheet = ours ++ drop (length ours) sheet
 
 unfoldable pub writtenSheet : ℕ → ℕ → List ℕ → List ℕ → ℕ → ℕ → List ℕ → List ℕ
-writtenSheet n m s ws a b sheet = sheetLeft (askSheet n m s ws a b sheet) (ourSheet n m s ws a b) sheet
+writtenSheet n m s ws a b sheet = sheetOut (askSheet n m s ws a b sheet) (ourSheet n m s ws a b) sheet

@@ -5,12 +5,11 @@ ghost use mathlib.Core.List.{_++_};
 ghost use Prim.Native.Nat.{ℕ, _+_, _*_, _/_, _^_, _≤_, _<_};
 ghost use lib.Dec.{leb};
 ghost use lib.ListN.{length, drop};
-ghost use Rattle.pack.specs.Marks.{counted};
-ghost use Rattle.pack.specs.Question.{checkQuestion};
+ghost use Rattle.pack.specs.Question.{counted, checkQuestion};
 ghost use Rattle.pack.specs.Record.{linesOf};
 ghost use Rattle.passes.specs.Ours.{ourSteps};
 ghost use Rattle.engine.specs.Verdict.{follows};
-ghost use Rattle.engine.specs.Sheet.{wordBytes, sheetAnswer, sheetLeft, askSheet, writtenSheet};
+ghost use Rattle.engine.specs.Sheet.{wordBytes, sheetAnswer, sheetOut, askSheet, writtenSheet};
 ghost use Rattle.engine.specs.Inner.{rowsBytes, rowIn};
 use crate::verdict::settle;
 use pack::check::Checked;
@@ -93,7 +92,7 @@ fn write_no<'a>(
 ) -> SheetAnswer
     requires { ⌜ (1 ≤ n) × (n ≤ 64) × (m ≤ 8) ⌝ }
     ensures answer { λ r. ⌜ r ≡ sheetAnswer false (n * (1 + m)) (leb (n * (1 + m) * 8) (length (now (sheet .entry)))) ⌝ }
-    ensures sheet { λ r. ⌜ now (sheet .exit) ≡ sheetLeft r (rowsBytes n (n * (1 + m)) (now (concepts .entry)) (now (links .entry))) (now (sheet .entry)) ⌝ }
+    ensures sheet { λ r. ⌜ now (sheet .exit) ≡ sheetOut r (rowsBytes n (n * (1 + m)) (now (concepts .entry)) (now (links .entry))) (now (sheet .entry)) ⌝ }
     ensures words { λ r. ⌜ (n * (1 + m) * 8 ≤ length (now (sheet .entry)) → (i : ℕ) → i < n * (1 + m) → rowIn n (now (concepts .entry)) (now (links .entry)) i < 2 ^ 64) ⌝ }
 {
     let rows = n * (1 + m);

@@ -2,7 +2,6 @@
 pub mod Parts
 pub mod RecordLaws
 pub mod PackLaws
-pub mod MarkLaws
 pub mod QuestionLaws
 pub mod WorldLaws
 pub mod RuleLaws

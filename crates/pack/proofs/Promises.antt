@@ -2,11 +2,9 @@
 use mathlib.Core.Path.{_≡_}
 use mathlib.Core.Bool.{Bool}
 use mathlib.Core.List.{List}
-use Prim.Native.Nat.{ℕ, _-_}
-use Rattle.bits.specs.Sets.{lowest}
+use Prim.Native.Nat.{ℕ}
 use Rattle.bits.proofs.Promises.{no-second}
 use Rattle.pack.specs.declared.check.Checked.{Checked}
-use Rattle.pack.specs.Marks.{marked, marksFit, markCount}
 use Rattle.pack.specs.Pack.{checkPack}
 use Rattle.pack.specs.Question.{goalFits, checkQuestion}
 
@@ -15,18 +13,6 @@ check-pack-fixed n m s r r′ = no-second
 
 pub check-question-fixed : (n m : ℕ) (s ws : List ℕ) (a b : ℕ) (r r′ : Checked) → r ≡ checkQuestion n m s ws a b → r′ ≡ checkQuestion n m s ws a b → r ≡ r′
 check-question-fixed n m s ws a b r r′ = no-second
-
-pub is-marked-fixed : (ws : List ℕ) (i : ℕ) (r r′ : Bool) → r ≡ marked ws i → r′ ≡ marked ws i → r ≡ r′
-is-marked-fixed ws i r r′ = no-second
-
-pub next-marked-fixed : (ws : List ℕ) (i r r′ : ℕ) → r ≡ lowest (marked ws) i (1024 - i) → r′ ≡ lowest (marked ws) i (1024 - i) → r ≡ r′
-next-marked-fixed ws i r r′ = no-second
-
-pub count-marked-fixed : (ws : List ℕ) (r r′ : ℕ) → r ≡ markCount ws → r′ ≡ markCount ws → r ≡ r′
-count-marked-fixed ws r r′ = no-second
-
-pub marks-fit-fixed : (ws : List ℕ) (count : ℕ) (r r′ : Bool) → r ≡ marksFit ws count → r′ ≡ marksFit ws count → r ≡ r′
-marks-fit-fixed ws count r r′ = no-second
 
 pub goal-fits-fixed : (n a b : ℕ) (r r′ : Bool) → r ≡ goalFits n a b → r′ ≡ goalFits n a b → r ≡ r′
 goal-fits-fixed n a b r r′ = no-second

@@ -11,11 +11,11 @@ use Rattle.bits.proofs.Truth.{and-true, never}
 use Rattle.pack.specs.declared.check.Refusal.the-variants.{Marks, Goal}
 use Rattle.pack.specs.declared.check.Checked.{Checked}
 use Rattle.pack.specs.declared.check.Checked.the-variants.{Refused, Count}
-use Rattle.pack.specs.Marks.{marksFit, marked}
+use Rattle.marks.specs.Marks.{marksFit, marked}
 use Rattle.pack.specs.Pack.{checkPack}
 use Rattle.pack.specs.Question.{goalFits, afterPack, checkQuestion}
 use Rattle.pack.proofs.PackLaws.{Accepted, counted, counts}
-use Rattle.pack.proofs.MarkLaws.{Fit, fit, fits}
+use Rattle.marks.proofs.MarkLaws.{Fit, fit, fits}
 
 pub record Asked (n m : ℕ) (s ws : List ℕ) (a b k : ℕ) : Type 0 where
   pub pack : Accepted n m s k
@@ -45,7 +45,7 @@ asked n m s ws a b {k} = after (checkPack n m s) refl
     counts j e true f h = goal j e f (goalFits n a b) refl h
     counts j e false f h = let z : _≡_ {A = ℕ} 0 1 = cc in absurd (omega arith)
 
-    after : (r : Checked) → checkPack n m s ≡ r → afterPack r n ws a b ≡ Count k → Asked n m s ws a b k
+    after : (r : Checked) → checkPack n m s ≡ r → afterPack r n (marksFit ws) a b ≡ Count k → Asked n m s ws a b k
     after (Refused why) e h = let z : _≡_ {A = ℕ} 0 1 = cc in absurd (omega arith)
     after (Count j) e h = counts j e (marksFit ws j) refl h
 

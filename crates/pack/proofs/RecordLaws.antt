@@ -14,7 +14,7 @@ use Rattle.pack.specs.declared.line.Line.the-variants.{Under, BothUnder,
 use Rattle.pack.specs.World.{lineAt}
 use Rattle.pack.specs.Bytes.{part}
 use Rattle.pack.specs.Record.{lineOf, lineIn, keeps, keepsIn, keepsAt, lineAtPlace, recordCount, linesOf, ValidLine, Valid}
-use Rattle.pack.proofs.Parts.{listed-length, listed-at}
+use Rattle.bits.proofs.ListLaws.{listed-length, listed-at}
 
 -- the lines of a pack are those of its records
 pub lines-length : (s : List ℕ) → length (linesOf s) ≡ recordCount s

@@ -1,9 +1,10 @@
--- Numbers in bytes, the low byte first; parts of 8 bytes; lists by a rule.
+-- Numbers in bytes, the low byte first; parts of 8 bytes; marks in bytes.
 use Prim.Native.Nat.{ℕ, zero, suc, _+_, _*_, _^_}
 use mathlib.Core.Bool.{cond}
-use mathlib.Core.List.{List, [], _∷_}
+use mathlib.Core.List.{List, []}
 use lib.Dec.{eqb}
 use lib.ListN.{length, getD, take, drop}
+use Rattle.bits.specs.Lists.{listed}
 
 -- the number in the first c bytes
 unfoldable pub littleEndian : ℕ → List ℕ → ℕ
@@ -17,11 +18,6 @@ wordIn p = littleEndian 8 p
 -- part i of a list of 8-byte parts
 abbrev pub part : List ℕ → ℕ → List ℕ
 part s i = take 8 (drop (i * 8) s)
-
--- f i, f (i + 1), and so on: c of them
-unfoldable pub listed : {A : Type 0} → ℕ → ℕ → (ℕ → A) → List A
-listed zero i f = []
-listed (suc c) i f = f i ∷ listed c (i + 1) f
 
 -- the 16 words of 128 bytes
 unfoldable pub wordsIn : List ℕ → List ℕ

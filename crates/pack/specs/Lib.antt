@@ -1,9 +1,8 @@
--- Document 01 in definitions. The meaning: World, Rules. The bytes: Bytes, Record, Marks. The answers: Answers, Pack, Question.
+-- Document 01 in definitions. The meaning: World, Rules. The bytes: Bytes, Record. The answers: Answers, Pack, Question.
 pub mod World
 pub mod Rules
 pub mod Bytes
 pub mod Record
-pub mod Marks
 pub mod Answers
 pub mod Pack
 pub mod Question

@@ -1,4 +1,4 @@
--- What the question check answers: the pack check, then the marks, then the goal.
+-- The places that count, and what the question check answers: the pack check, then the marks, then the goal.
 use Prim.Native.Nat.{ℕ}
 use mathlib.Core.Path.{_≡_}
 use mathlib.Core.List.{List}
@@ -7,26 +7,31 @@ use lib.Dec.{ltb}
 use Rattle.pack.specs.declared.check.Refusal.the-variants.{Marks, Goal}
 use Rattle.pack.specs.declared.check.Checked.{Checked}
 use Rattle.pack.specs.declared.check.Checked.the-variants.{Refused, Count}
-use Rattle.pack.specs.Marks.{marksFit}
+use Rattle.marks.specs.Marks.{marked, marksFit}
 use Rattle.pack.specs.Pack.{checkPack}
+
+-- the places that count in an answer: the marked ones
+abbrev pub counted : List ℕ → List ℕ → ℕ → Bool
+counted s ws = marked ws
 
 -- both goal concepts are below n
 abbrev pub goalFits : ℕ → ℕ → ℕ → Bool
 goalFits n a b = ltb a n && ltb b n
 
--- 4 MARKS, 5 GOAL, else the record count
-abbrev pub checkCounted : ℕ → ℕ → List ℕ → ℕ → ℕ → Checked
-checkCounted n count ws a b =
-    cond (marksFit ws count)
+-- 4 MARKS unless they fit, 5 GOAL, else the record count
+abbrev pub checkCounted : ℕ → ℕ → Bool → ℕ → ℕ → Checked
+checkCounted n count fit a b =
+    cond fit
     (cond (goalFits n a b) (Count count) (Refused Goal))
     (Refused Marks)
 
-abbrev pub afterPack : Checked → ℕ → List ℕ → ℕ → ℕ → Checked
-afterPack (Refused why) n ws a b = Refused why
-afterPack (Count count) n ws a b = checkCounted n count ws a b
+-- after the pack check, with what tells whether the marks fit a pack of so many records
+abbrev pub afterPack : Checked → ℕ → (ℕ → Bool) → ℕ → ℕ → Checked
+afterPack (Refused why) n fits a b = Refused why
+afterPack (Count count) n fits a b = checkCounted n count (fits count) a b
 
 unfoldable pub checkQuestion : ℕ → ℕ → List ℕ → List ℕ → ℕ → ℕ → Checked
-checkQuestion n m s ws a b = afterPack (checkPack n m s) n ws a b
+checkQuestion n m s ws a b = afterPack (checkPack n m s) n (marksFit ws) a b
 
 -- the question is taken: nothing of 1 to 5 is refused
 abbrev pub Taken : ℕ → ℕ → List ℕ → List ℕ → ℕ → ℕ → Type 0

@@ -2,5 +2,4 @@
 pub mod bytes;
 pub mod check;
 pub mod line;
-pub mod marks;
 pub mod question;

@@ -1,10 +1,11 @@
 // The question check: numbers 1 to 5 of document 01's table, else the record count.
 ghost use mathlib.Core.Path.{_≡_};
+ghost use Rattle.marks.specs.Marks.{marksFit};
 ghost use Rattle.pack.specs.Question.{goalFits, checkCounted, checkQuestion};
 use crate::check::Checked;
 use crate::check::Refusal;
 use crate::check::check_pack;
-use crate::marks::marks_fit;
+use marks::look::marks_fit;
 
 // Are both goal concepts below n?
 pub fn goal_fits(n: usize, a: usize, b: usize) -> bool
@@ -18,7 +19,7 @@ pub fn goal_fits(n: usize, a: usize, b: usize) -> bool
 
 // The marks and the goal, for a pack of `count` records.
 fn check_counted(n: usize, count: u32, marks: &[u64], a: usize, b: usize) -> Checked
-    ensures { λ r. ⌜ r ≡ checkCounted n count (now (marks .entry)) a b ⌝ }
+    ensures { λ r. ⌜ r ≡ checkCounted n count (marksFit (now (marks .entry)) count) a b ⌝ }
 {
     if marks_fit(marks, count as usize) {
         if goal_fits(n, a, b) {

@@ -6,7 +6,6 @@ pub mod Ranges
 pub mod Lacking
 pub mod Exact
 pub mod PassLaws
-pub mod RowLaws
 pub mod StopLaws
 pub mod YesLaws
 pub mod NoLaws

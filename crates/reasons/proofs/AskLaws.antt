@@ -1,12 +1,14 @@
--- Laws of asking again: a question that is taken is taken with fewer marks, and the answer is whether the goal follows.
+-- Laws of asking again: a question that is taken is taken with fewer marks, the answer is whether the goal follows, and so the turns of
+-- picking come to the picked set.
 use mathlib.Core.Path.{_≡_, sym, ap, _∙_}
 use mathlib.Core.Bool.{Bool, true, false}
 use mathlib.Core.List.{List}
-use Prim.Native.Nat.{ℕ, _≤_}
+use Prim.Native.Nat.{ℕ, _+_, _-_, _≤_}
 use native.Mathlib.Omega.{arith}
 use lib.ListN.{length}
+use Rattle.bits.specs.Sets.{lowest}
 use Rattle.bits.proofs.Truth.{never}
-use Rattle.pack.specs.Marks.{marked}
+use Rattle.marks.specs.Marks.{marked, marksOf, cutOut}
 use Rattle.pack.specs.Question.{Taken}
 use Rattle.pack.specs.Record.{linesOf}
 use Rattle.pack.specs.World.{Follows}
@@ -15,11 +17,13 @@ use Rattle.pack.proofs.RecordLaws.{lines-length}
 use Rattle.passes.specs.Passes.{verdict}
 use Rattle.passes.proofs.PassLaws.{decides}
 use Rattle.engine.proofs.VerdictLaws.{question, valid}
+use Rattle.reasons.specs.Inner.{Next}
+use Rattle.reasons.specs.Printed.{IsPicked}
+use Rattle.reasons.proofs.PrintedLaws.{follows-more}
+use Rattle.reasons.proofs.HalveLaws.{Rest, halved-start, halved-end, rest-on, rest-next}
 use Rattle.engine.specs.Verdict.{follows}
-use Rattle.reasons.specs.OutMarks.{marksOf}
-use Rattle.reasons.specs.Inner.{cutOut}
-use Rattle.reasons.proofs.OutLaws.{marks-length}
-use Rattle.reasons.proofs.HalveLaws.{cut-marked, cut-fewer}
+use Rattle.marks.proofs.WordLaws.{marks-length}
+use Rattle.marks.proofs.CutLaws.{cut-marked, cut-fewer}
 
 module _ (n m : ℕ) (s ws : List ℕ) (a b : ℕ) (t : Taken n m s ws a b) where
   pub taken-sixteen : length ws ≡ 16
@@ -51,3 +55,29 @@ module _ (n m : ℕ) (s ws : List ℕ) (a b : ℕ) (t : Taken n m s ws a b) wher
 
     pub no-follows : verdict (linesOf s) P n m a b ≡ false → Follows (linesOf s) P a b → ⊥
     no-follows e f = let q = question n m s ws a b (t .1) in never (decides (linesOf s) P n m (valid n m s ws a b (t .1)) (q .pack .n-some) a b (q .goalA) .1 f) e
+
+-- THE TURNS OF PICKING: of the marks given, those that are left, with the places below i settled
+abbrev pub Picking : List ℕ → List ℕ → ℕ → ℕ → List ℕ → ℕ → Type 0
+Picking s given a b rest i = Rest (length (linesOf s)) (λ P. Follows (linesOf s) P a b) (marked given) rest i
+
+module _ (n m : ℕ) (s given : List ℕ) (a b : ℕ) (t : Taken n m s given a b) where
+  abbrev len : ℕ
+  len = length (linesOf s)
+
+  abbrev F : (ℕ → Bool) → Type 0
+  F P = Follows (linesOf s) P a b
+
+  -- at the start and after a turn, up to the next place that is left
+  pub pick-start : (i : ℕ) → given ≡ marksOf (marked given) → Follows (linesOf s) (marked given) a b → i ≡ lowest (marked given) 0 1024 → Picking s given a b given i
+  pick-start i w f e =
+      rest-on len F (follows-more (linesOf s) a b) (lines-most n m s given a b t) (marked given) given 0 i
+      (record { words = w; halved = halved-start len F (follows-more (linesOf s) a b) (marked given) f }) e
+
+  pub pick-next : (rest rest′ : List ℕ) (i k j : ℕ) → Picking s given a b rest i → Next (λ P. Follows (linesOf s) P a b) (marked rest) i k → rest′ ≡ marksOf (cutOut (marked rest) i k) → j ≡ lowest (marked rest′) (k + 1) (1024 - (k + 1)) → Picking s given a b rest′ j
+  pick-next rest rest′ i k j p x e =
+      rest-on len F (follows-more (linesOf s) a b) (lines-most n m s given a b t) (marked given) rest′ (k + 1) j
+      (rest-next len F (follows-more (linesOf s) a b) (lines-most n m s given a b t) (marked given) rest i k p x rest′ e)
+
+  -- all settled, what is left is picked
+  pub pick-end : (rest : List ℕ) (i : ℕ) → 1024 ≤ i → Picking s given a b rest i → IsPicked (length (linesOf s)) (λ P. Follows (linesOf s) P a b) (marked given) (marked rest)
+  pick-end rest i h p = halved-end len F (follows-more (linesOf s) a b) (marked given) (marked rest) i (p .halved) (omega (arith, lines-most n m s given a b t))

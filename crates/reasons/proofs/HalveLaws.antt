@@ -1,81 +1,24 @@
 -- Laws of halving: of the places from i on those that can go together are cut out, the next one is kept, and so on; what is left is picked.
-use mathlib.Core.Path.{_≡_, refl, sym, ap, _∙_, fun-ext, subst}
-use mathlib.Core.Bool.{Bool, true, false, not, _&&_}
+use mathlib.Core.Path.{_≡_, sym, ap, _∙_, subst}
+use mathlib.Core.Bool.{Bool, true, false}
 use mathlib.Core.List.{List}
 use Prim.Native.Nat.{ℕ, _+_, _-_, _≤_, _<_}
 use native.Mathlib.Decide.{decLt}
 use native.Mathlib.Omega.{arith}
-use lib.Dec.{leb, ltb}
 use lib.ListN.{length}
-use borrow.Author.Tests.{lt-ltb, le-ltb, le-leb, lt-leb}
-use Rattle.bits.proofs.Truth.{and-true, and-false, and-yes, never}
+use Rattle.bits.proofs.Truth.{never}
 use Rattle.bits.specs.Sets.{lowest}
-use Rattle.bits.proofs.SetLaws.{lowest-is}
-use Rattle.pack.specs.Marks.{marked}
-use Rattle.pack.proofs.MarkLaws.{unmarked-past}
+use Rattle.marks.specs.Marks.{marked, marksOf, cutOut}
+use Rattle.marks.proofs.MarkLaws.{next-lowest}
+use Rattle.marks.proofs.CutLaws.{cut-before, cut-after, cut-gone, cut-fewer, cut-marked}
 use Rattle.reasons.specs.Printed.{Within, IsPicked}
-use Rattle.reasons.specs.OutMarks.{marksOf}
-use Rattle.reasons.specs.Inner.{cutOut, Between, Next}
-use Rattle.reasons.proofs.OutLaws.{marked-of, marked-past, marks-length}
+use Rattle.reasons.specs.Inner.{Between, Next}
+use Rattle.marks.proofs.WordLaws.{marks-length}
 use Rattle.reasons.proofs.PickLaws.{Settled, Cut, cut-settled, cut-picked, kept-settled, settled-picked}
 
--- r is the next marked place from i on
-module _ (ws : List ℕ) (i r : ℕ) (e : r ≡ lowest (marked ws) i (1024 - i)) where
-  pub next-up : i ≤ r
-  next-up = omega (arith, e, lowest-is (marked ws) i (1024 - i) .from)
-
-  pub next-most : r ≤ i + (1024 - i)
-  next-most = omega (arith, e, lowest-is (marked ws) i (1024 - i) .within)
-
-  pub next-none : (j : ℕ) → i ≤ j → j < r → marked ws j ≡ false
-  next-none j h g = lowest-is (marked ws) i (1024 - i) .none j h (omega (arith, e))
-
-  pub next-found : r < 1024 → marked ws r ≡ true
-  next-found h = rw e (lowest-is (marked ws) i (1024 - i) .found (omega (arith, e, next-up)))
-
-  pub next-least : (q : ℕ) → i ≤ q → marked ws q ≡ true → r ≤ q
-  next-least q h g = go (decLt q r)
-    where
-      go : Dec (q < r) → r ≤ q
-      go (yes l) = never g (next-none q h l)
-      go (no l) = omega arith
-
-module _ (P : ℕ → Bool) (i k : ℕ) where
-  -- outside the range all is as it was; inside it nothing is left
-  pub cut-before : (j : ℕ) → j < i → cutOut P i k j ≡ P j
-  unfolding cutOut
-  cut-before j h = rw (lt-leb i j h) (and-yes (P j))
-
-  pub cut-after : (j : ℕ) → k ≤ j → cutOut P i k j ≡ P j
-  unfolding cutOut
-  cut-after j h = rw (le-ltb j k h, and-false (leb i j) false refl) (and-yes (P j))
-
-  pub cut-gone : (j : ℕ) → i ≤ j → j < k → cutOut P i k j ≡ false
-  unfolding cutOut
-  cut-gone j h g = rw (le-leb i j h, lt-ltb j k g) (and-false (P j) false refl)
-
-  pub cut-fewer : (j : ℕ) → cutOut P i k j ≡ true → P j ≡ true
-  unfolding cutOut
-  cut-fewer j h = and-true (P j) (not (leb i j && ltb j k)) h .0
-
-  pub cut-out : (len : ℕ) → Cut len i k P (cutOut P i k)
-  cut-out len = record { gone = cut-gone; before = cut-before; after = λ j h _. cut-after j h }
-
--- A RANGE CUT OUT OF MARKS is cut out of the places they mark
-pub cut-marked : (ws : List ℕ) (i k : ℕ) → length ws ≡ 16 → marked (marksOf (cutOut (marked ws) i k)) ≡ cutOut (marked ws) i k
-cut-marked ws i k l = fun-ext (λ j. go j (decLt j 1024))
-  where
-    past : (j : ℕ) → 1024 ≤ j → (t : Bool) → cutOut (marked ws) i k j ≡ t → false ≡ t
-    past j h true e = never (cut-fewer (marked ws) i k j e) (unmarked-past ws j (omega arith))
-    past j h false e = refl
-
-    go : (j : ℕ) → Dec (j < 1024) → marked (marksOf (cutOut (marked ws) i k)) j ≡ cutOut (marked ws) i k j
-    go j (yes h) = marked-of (cutOut (marked ws) i k) j h
-    go j (no h) = marked-past (cutOut (marked ws) i k) j (omega arith) ∙ past j (omega arith) (cutOut (marked ws) i k j) refl
-
--- with no range cut out they mark what they did
-pub copy-marked : (ws copy : List ℕ) → length ws ≡ 16 → copy ≡ marksOf (cutOut (marked ws) 0 0) → marked copy ≡ marked ws
-copy-marked ws copy l e = ap marked e ∙ cut-marked ws 0 0 l ∙ fun-ext (λ j. cut-after (marked ws) 0 0 j (omega arith))
+-- the places of a range cut out
+cut-out : (P : ℕ → Bool) (i k len : ℕ) → Cut len i k P (cutOut P i k)
+cut-out P i k len = record { gone = cut-gone P i k; before = cut-before P i k; after = λ j h _. cut-after P i k j h }
 
 -- of S, the places of T are left, and those below i are settled
 pub record Halved (len : ℕ) (F : (ℕ → Bool) → Type 0) (S T : ℕ → Bool) (i : ℕ) : Type 0 where
@@ -158,22 +101,22 @@ module _ (len : ℕ) (F : (ℕ → Bool) → Type 0) (mono : (P Q : ℕ → Bool
       go j (no p) = cut-after T i i j (omega arith)
 
 -- words that mark what is left of S, those below i settled
-pub record Left (len : ℕ) (F : (ℕ → Bool) → Type 0) (S : ℕ → Bool) (ws : List ℕ) (i : ℕ) : Type 0 where
+pub record Rest (len : ℕ) (F : (ℕ → Bool) → Type 0) (S : ℕ → Bool) (ws : List ℕ) (i : ℕ) : Type 0 where
   pub words : ws ≡ marksOf (marked ws)
   pub halved : Halved len F S (marked ws) i
 
-module _ (len : ℕ) (F : (ℕ → Bool) → Type 0) (mono : (P Q : ℕ → Bool) → Within len P Q → F P → F Q) (most : len ≤ 1024) (S : ℕ → Bool) (ws : List ℕ) where
-  pub left-sixteen : ws ≡ marksOf (marked ws) → length ws ≡ 16
-  left-sixteen e = ap length e ∙ marks-length (marked ws)
+pub rest-sixteen : (ws : List ℕ) → ws ≡ marksOf (marked ws) → length ws ≡ 16
+rest-sixteen ws e = ap length e ∙ marks-length (marked ws)
 
+module _ (len : ℕ) (F : (ℕ → Bool) → Type 0) (mono : (P Q : ℕ → Bool) → Within len P Q → F P → F Q) (most : len ≤ 1024) (S : ℕ → Bool) (ws : List ℕ) where
   -- up to the next marked place
-  pub left-on : (i k : ℕ) → Left len F S ws i → k ≡ lowest (marked ws) i (1024 - i) → Left len F S ws k
-  left-on i k t e = record { words = t .words; halved = halved-on len F mono S (marked ws) i (t .halved) k (next-none ws i k e) }
+  pub rest-on : (i k : ℕ) → Rest len F S ws i → k ≡ lowest (marked ws) i (1024 - i) → Rest len F S ws k
+  rest-on i k t e = record { words = t .words; halved = halved-on len F mono S (marked ws) i (t .halved) k (next-lowest ws i k e .none) }
 
   -- a turn of the loop
-  pub left-next : (i k : ℕ) → Left len F S ws i → Next F (marked ws) i k → (ws′ : List ℕ) → ws′ ≡ marksOf (cutOut (marked ws) i k) → Left len F S ws′ (k + 1)
-  left-next i k t x ws′ e =
-      let same : marked ws′ ≡ cutOut (marked ws) i k = ap marked e ∙ cut-marked ws i k (left-sixteen (t .words)) in
+  pub rest-next : (i k : ℕ) → Rest len F S ws i → Next F (marked ws) i k → (ws′ : List ℕ) → ws′ ≡ marksOf (cutOut (marked ws) i k) → Rest len F S ws′ (k + 1)
+  rest-next i k t x ws′ e =
+      let same : marked ws′ ≡ cutOut (marked ws) i k = ap marked e ∙ cut-marked ws i k (rest-sixteen ws (t .words)) in
       record {
         words = e ∙ ap marksOf (sym same);
         halved = subst (λ (T : ℕ → Bool). Halved len F S T (k + 1)) (sym same) (halved-next len F mono S (marked ws) i (t .halved) most k x);

@@ -95,7 +95,7 @@ module _ (ls : List Line) (S : ℕ → Bool) (R : Name → Bool) (n : ℕ) (goes
       )
 
 module _ (ls : List Line) (S : ℕ → Bool) (R : Name → Bool) where
-  inside-true : (i : ℕ) → moduleIn ls S R i ≡ true → (S i ≡ true) × (allIn R (leftNames (lineAt ls i)) ≡ true)
+  pub inside-true : (i : ℕ) → moduleIn ls S R i ≡ true → (S i ≡ true) × (allIn R (leftNames (lineAt ls i)) ≡ true)
   unfolding moduleIn
   inside-true i h = and-true (S i) (allIn R (leftNames (lineAt ls i))) h
 

@@ -5,11 +5,9 @@ pub mod ReachLaws
 pub mod InsideLaws
 pub mod Cases
 pub mod OutLaws
-pub mod CutLaws
 pub mod HalveLaws
 pub mod AskLaws
 pub mod NameLaws
 pub mod SetLaws
 pub mod SetRight
-pub mod LeftLaws
 pub mod ModuleLaws

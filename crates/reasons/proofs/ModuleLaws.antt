@@ -12,7 +12,8 @@ use Rattle.pack.specs.declared.check.Checked.the-variants.{Refused, Count}
 use Rattle.pack.specs.declared.check.Refusal.{Refusal}
 use Rattle.pack.specs.declared.line.Line.{Line}
 use Rattle.pack.specs.declared.line.Line.the-variants.{Under, BothUnder, UnderSome, SomeUnder, RoleUnder, ChainUnder, NoLine}
-use Rattle.pack.specs.Marks.{marked, counted, markCount}
+use Rattle.marks.specs.Marks.{marked, markCount, marksOf}
+use Rattle.pack.specs.Question.{counted}
 use Rattle.pack.specs.Record.{linesOf, ValidLine, Valid}
 use Rattle.pack.specs.World.{lineAt}
 use Rattle.pack.proofs.QuestionLaws.{Asked, asked}
@@ -20,9 +21,10 @@ use Rattle.pack.proofs.RecordLaws.{lines-length}
 use Rattle.engine.proofs.VerdictLaws.{valid}
 use Rattle.reasons.specs.Reach.{Name, IsReached, moduleIn, IsModule, reached, moduleOf}
 use Rattle.reasons.specs.Names.{TakenOf, Unreached}
-use Rattle.reasons.specs.OutMarks.{marksOf, checkReason}
-use Rattle.reasons.specs.Module.{moduleMarks, marksAnswer, askModule, writtenModule}
-use Rattle.reasons.proofs.OutLaws.{marks-length, marked-of, marked-past, marks-alike, both-asked}
+use Rattle.reasons.specs.OutMarks.{checkReason}
+use Rattle.reasons.specs.Module.{moduleMarks, moduleAnswer, askModule, writtenModule}
+use Rattle.marks.proofs.WordLaws.{marks-length, marked-of, marked-past, marks-alike}
+use Rattle.reasons.proofs.OutLaws.{reason-taken}
 use Rattle.reasons.proofs.ReachLaws.{module-is, module-one}
 
 module _ (ls : List Line) (S : ℕ → Bool) (R : Name → Bool) where
@@ -43,18 +45,18 @@ line-most n m h g NoLine v = v
 
 -- of a question about a that is taken
 module _ (n m : ℕ) (s ws : List ℕ) (a : ℕ) (taken : TakenOf n m s ws a) where
-  pub question : Asked n m s ws a (taken .0) (taken .1 .0)
-  question = asked n m s ws a (taken .0) (taken .1 .1)
+  pub asked-of : Asked n m s ws a (taken .0) (taken .1 .0)
+  asked-of = asked n m s ws a (taken .0) (taken .1 .1)
 
   lines-right : Valid n m (linesOf s)
   lines-right = valid n m s ws a (taken .0) (taken .1 .1)
 
-  pub lines-most : Valid 64 8 (linesOf s)
-  lines-most i h = line-most n m (question .pack .n-most) (question .pack .m-most) (lineAt (linesOf s) i) (lines-right i h)
+  pub lines-widest : Valid 64 8 (linesOf s)
+  lines-widest i h = line-most n m (asked-of .pack .n-most) (asked-of .pack .m-most) (lineAt (linesOf s) i) (lines-right i h)
 
   -- no place past the records counts
   pub none-past : (i : ℕ) → length (linesOf s) ≤ i → counted s ws i ≡ false
-  none-past i h = question .marks .above i (omega (arith, lines-length s, question .pack .count))
+  none-past i h = asked-of .marks .above i (omega (arith, lines-length s, asked-of .pack .count))
 
   -- the module has no place past the records
   module-past : (i : ℕ) → length (linesOf s) ≤ i → moduleOf (linesOf s) (counted s ws) n m a i ≡ false
@@ -72,27 +74,27 @@ module _ (n m : ℕ) (s ws : List ℕ) (a : ℕ) (taken : TakenOf n m s ws a) wh
       S = counted s ws
 
       go : (i : ℕ) → Dec (i < length ls) → moduleIn ls S R i ≡ moduleOf ls S n m a i
-      go i (yes h) = module-one ls S a (moduleIn ls S R) (moduleOf ls S n m a) (record { names = R; reached = r; places = λ j l. refl }) (module-is ls S n m a lines-right (question .goalA)) i h
+      go i (yes h) = module-one ls S a (moduleIn ls S R) (moduleOf ls S n m a) (record { names = R; reached = r; places = λ j l. refl }) (module-is ls S n m a lines-right (asked-of .goalA)) i h
       go i (no h) = outside-unmarked ls S R i (none-past i (omega arith)) ∙ sym (module-past i (omega arith))
 
-  -- THE MARKS BUT FOR WHAT IS LEFT are the module's
-  pub left-module : (left : List ℕ) → Unreached (linesOf s) (counted s ws) a (marked left) → marksOf (λ i. marked ws i && not (marked left i)) ≡ moduleMarks n m s ws a
-  left-module left u =
-      marks-alike (λ i. marked ws i && not (marked left i)) (moduleIn (linesOf s) (counted s ws) (u .names)) (λ i _. go i (decLt i (length (linesOf s))))
+  -- THE MARKS BUT FOR THE UNREACHED are the module's
+  pub unreached-module : (others : List ℕ) → Unreached (linesOf s) (counted s ws) a (marked others) → marksOf (λ i. marked ws i && not (marked others i)) ≡ moduleMarks n m s ws a
+  unreached-module others u =
+      marks-alike (λ i. marked ws i && not (marked others i)) (moduleIn (linesOf s) (counted s ws) (u .names)) (λ i _. go i (decLt i (length (linesOf s))))
       ∙ names-module (u .names) (u .reached)
     where
-      go : (i : ℕ) → Dec (i < length (linesOf s)) → (marked ws i && not (marked left i)) ≡ moduleIn (linesOf s) (counted s ws) (u .names) i
+      go : (i : ℕ) → Dec (i < length (linesOf s)) → (marked ws i && not (marked others i)) ≡ moduleIn (linesOf s) (counted s ws) (u .names) i
       go i (yes h) = sym (u .places i h)
       go i (no h) = rw (none-past i (omega arith)) (sym (outside-unmarked (linesOf s) (counted s ws) (u .names) i (none-past i (omega arith))))
 
   -- THEY MARK EXACTLY THE MODULE
   pub marks-module : IsModule (linesOf s) (counted s ws) a (marked (moduleMarks n m s ws a))
   marks-module =
-      let im = module-is (linesOf s) (counted s ws) n m a lines-right (question .goalA) in
+      let im = module-is (linesOf s) (counted s ws) n m a lines-right (asked-of .goalA) in
       record {
         names = im .names;
         reached = im .reached;
-        places = λ i l. marked-of (moduleOf (linesOf s) (counted s ws) n m a) i (omega (arith, lines-length s, question .pack .size)) ∙ im .places i l;
+        places = λ i l. marked-of (moduleOf (linesOf s) (counted s ws) n m a) i (omega (arith, lines-length s, asked-of .pack .size)) ∙ im .places i l;
       }
 
   pub marks-past : (i : ℕ) → length (linesOf s) ≤ i → marked (moduleMarks n m s ws a) i ≡ false
@@ -109,25 +111,25 @@ pub record MarksModule (s ws : List ℕ) (a k : ℕ) (out : List ℕ) : Type 0 w
   pub past : (i : ℕ) → length (linesOf s) ≤ i → marked out i ≡ false
   pub count : k ≡ markCount out
 
--- the answer and the marks out
+-- the answer and the out marks
 module _ (n m : ℕ) (s ws : List ℕ) (a : ℕ) (out : List ℕ) where
   -- WHERE THE QUESTION IS TAKEN the module's words are written and counted
-  pub module-taken : {k : ℕ} → checkReason n m s ws a a out ≡ Count k
+  pub module-taken : {k : ℕ} → checkReason n m s ws a a (length out) ≡ Count k
       → (askModule n m s ws a out ≡ Count (markCount (moduleMarks n m s ws a))) × (writtenModule n m s ws a out ≡ moduleMarks n m s ws a)
   unfolding askModule writtenModule
   module-taken h = (rw h, rw h)
 
-  -- A REFUSAL is that of the question, and leaves the marks out as they were
-  pub module-refused : {why : Refusal} → checkReason n m s ws a a out ≡ Refused why → (askModule n m s ws a out ≡ Refused why) × (writtenModule n m s ws a out ≡ out)
+  -- A REFUSAL is that of the question, and leaves the out marks as they were
+  pub module-refused : {why : Refusal} → checkReason n m s ws a a (length out) ≡ Refused why → (askModule n m s ws a out ≡ Refused why) × (writtenModule n m s ws a out ≡ out)
   unfolding askModule writtenModule
   module-refused h = (rw h, rw h)
 
   -- a count is given only where the question is taken
-  module-counted : {k : ℕ} → askModule n m s ws a out ≡ Count k → (j : ℕ) × (checkReason n m s ws a a out ≡ Count j)
+  module-counted : {k : ℕ} → askModule n m s ws a out ≡ Count k → (j : ℕ) × (checkReason n m s ws a a (length out) ≡ Count j)
   unfolding askModule
-  module-counted {k} e = go (checkReason n m s ws a a out) refl e
+  module-counted {k} e = go (checkReason n m s ws a a (length out)) refl e
     where
-      go : (r : Checked) → checkReason n m s ws a a out ≡ r → marksAnswer r (moduleMarks n m s ws a) ≡ Count k → (j : ℕ) × (checkReason n m s ws a a out ≡ Count j)
+      go : (r : Checked) → checkReason n m s ws a a (length out) ≡ r → moduleAnswer r (moduleMarks n m s ws a) ≡ Count k → (j : ℕ) × (checkReason n m s ws a a (length out) ≡ Count j)
       go (Refused why) h g = let z : _≡_ {A = ℕ} 0 1 = cc in absurd (omega arith)
       go (Count j) h g = (j, h)
 
@@ -135,12 +137,12 @@ module _ (n m : ℕ) (s ws : List ℕ) (a : ℕ) (out : List ℕ) where
   unfolding writtenModule
   module-written e = rw e
 
-  -- THE MODULE CALL IS RIGHT: where it counts, the words out mark exactly the module, and so many places
+  -- THE MODULE CALL IS RIGHT: where it counts, the out marks mark exactly the module, and so many places
   pub module-right : {k : ℕ} → askModule n m s ws a out ≡ Count k → MarksModule s ws a k (writtenModule n m s ws a out)
   module-right {k} e =
       let c = module-counted e in
       let t = module-taken (c .1) in
-      let taken : TakenOf n m s ws a = (a, (c .0, both-asked n m s ws a a out (c .1))) in
+      let taken : TakenOf n m s ws a = (a, (c .0, reason-taken n m s ws a a (length out) (c .1) .1)) in
       let same : k ≡ markCount (moduleMarks n m s ws a) = cc in
       rw (t .1)
       (record {
@@ -150,11 +152,11 @@ module _ (n m : ℕ) (s ws : List ℕ) (a : ℕ) (out : List ℕ) where
         count = same;
       })
 
-  -- of the marks out only the length is judged
+  -- of the out marks only the length is judged
   pub module-length : (out′ : List ℕ) → length out ≡ length out′ → askModule n m s ws a out ≡ askModule n m s ws a out′
   unfolding askModule
   module-length out′ e = rw e
 
-  -- NO SECOND RESULT AND NO SECOND CONTENT OF THE MARKS OUT keeps the promise
+  -- NO SECOND RESULT AND NO SECOND CONTENT OF THE OUT MARKS keeps the promise
   pub module-fixed : (out₁ out₂ : List ℕ) (r r′ : Checked) → (r ≡ askModule n m s ws a out) × (out₁ ≡ writtenModule n m s ws a out) → (r′ ≡ askModule n m s ws a out) × (out₂ ≡ writtenModule n m s ws a out) → (r ≡ r′) × (out₁ ≡ out₂)
   module-fixed out₁ out₂ r r′ p q = (no-second (p .0) (q .0), no-second (p .1) (q .1))

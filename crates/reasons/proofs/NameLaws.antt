@@ -9,17 +9,16 @@ use lib.Dec.{eqb}
 use lib.ListN.{length}
 use borrow.Author.Tests.{eqb-true, eq-eqb}
 use Rattle.bits.specs.Bit.{has}
-use Rattle.bits.specs.Sets.{lowest, countTo}
+use Rattle.bits.specs.Sets.{countTo}
 use Rattle.bits.proofs.Truth.{and-true, true-and, or-elim, or-left, or-right, or-false, never, alike}
 use Rattle.bits.proofs.BitLaws.{has-with, has-ext, has-zero}
-use Rattle.bits.proofs.SetLaws.{Lowest, lowest-is, count-le}
-use Rattle.pack.specs.Marks.{marked}
+use Rattle.bits.proofs.SetLaws.{Lowest, count-le, count-fewer, count-less}
 use Rattle.pack.specs.declared.line.Line.{Line}
 use Rattle.pack.specs.World.{lineAt}
 use Rattle.reasons.specs.declared.reach.Names.{Names}
 use Rattle.reasons.specs.Reach.{Name, concept, role, leftNames, rightNames, allIn, Reaches, moduleIn, sameName}
 use Rattle.reasons.specs.Names.{nameIn, withName, withNames, withLine, Inside, Passed, Unreached}
-use Rattle.reasons.proofs.ReachLaws.{name-self, name-one, count-fewer, count-less}
+use Rattle.reasons.proofs.ReachLaws.{name-self, name-one}
 
 -- ONE NAME MORE: that name and those that were there
 with-name : (ns : Names) (x y : Name) → nameIn (withName ns x) y ≡ (nameIn ns y || sameName x y)
@@ -83,13 +82,9 @@ line-least ns l Q f h = go (allIn (nameIn ns) (leftNames l)) refl
     go true e = names-least (rightNames l) ns Q h (f (all-inside (nameIn ns) Q h (leftNames l) e))
     go false e = h
 
--- the next marked place as the search has it
-pub next-lowest : (ws : List ℕ) (i r : ℕ) → r ≡ lowest (marked ws) i (1024 - i) → Lowest (marked ws) i (1024 - i) r
-next-lowest ws i r e = rw e (lowest-is (marked ws) i (1024 - i))
-
--- A PASS, from one place that is left to the next
+-- A PASS, from one place that waits to the next
 module _ (ls : List Line) (T : ℕ → Bool) (R : Name → Bool) where
-  -- no place from i on and before j is left
+  -- no place from i on and before j waits
   passed-on : (i j : ℕ) {T′ : ℕ → Bool} {R′ : Name → Bool} → ((k : ℕ) → i ≤ k → k < j → T′ k ≡ false) → Passed ls T T′ i R R′ → Passed ls T T′ j R R′
   passed-on i j {T′} {R′} none p = record { keeps = p .keeps; fewer = p .fewer; least = p .least; gone = p .gone; lacks = λ k l t m. go k l t m (decLt k i) }
     where
@@ -195,7 +190,7 @@ names-rise ms ns b₁ b₂ b₃ b₄ up e = by-contra (suc (nameCount ns)) (name
         (eq-eqb (ms .concepts) (ns .concepts) (sym (word-same (ns .concepts) (ms .concepts) b₃ b₁ (λ j. up (concept j)) (omega arith))))
         (eq-eqb (ms .roles) (ns .roles) (sym (word-same (ns .roles) (ms .roles) b₄ b₂ (λ j. up (role j)) (omega arith))))
 
--- PASSES FROM CONCEPT a ON: a is there, and nothing that a set which reaches can lack; of S, both sides of what is no longer left
+-- PASSES FROM CONCEPT a ON: a is there, and nothing that a set which reaches can lack; of S, both sides of what waits no longer
 module _ (ls : List Line) (S : ℕ → Bool) (a : ℕ) where
   pub record Reaching (ns : Names) (T : ℕ → Bool) : Type 0 where
     pub start : nameIn ns (concept a) ≡ true
@@ -233,7 +228,7 @@ module _ (ls : List Line) (S : ℕ → Bool) (a : ℕ) where
             let up = all-inside (nameIn ns) (nameIn ms) (p .keeps) in
             (up (leftNames (lineAt ls i)) (d .0), up (rightNames (lineAt ls i)) (d .1))
 
-    -- A PASS THAT ADDS NO NAME: they are the smallest set, and what is left is what they do not reach
+    -- A PASS THAT ADDS NO NAME: they are the smallest set, and what waits is what they do not reach
     pub reaching-end : ms ≡ ns → Unreached ls S a T′
     unfolding moduleIn
     reaching-end same = record {

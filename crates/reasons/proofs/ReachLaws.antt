@@ -1,15 +1,14 @@
 -- Reach: saturation ends in the smallest set of names, and so finds the module, of which there is one.
 use mathlib.Core.Path.{_≡_, refl, sym, ap, _∙_}
-use mathlib.Core.Bool.{Bool, true, false, cond, not, _&&_}
+use mathlib.Core.Bool.{Bool, true, false, not, _&&_}
 use mathlib.Core.List.{List, [], _∷_}
 use Prim.Native.Nat.{ℕ, zero, suc, _+_, _≤_, _<_}
-use native.Mathlib.Decide.{ℕ-discrete}
 use native.Mathlib.Omega.{arith}
 use lib.ListN.{length}
 use borrow.Author.Tests.{eqb-true, eq-eqb}
 use Rattle.bits.specs.Sets.{countTo}
 use Rattle.bits.proofs.Truth.{and-true, true-and, not-true, never, alike}
-use Rattle.bits.proofs.SetLaws.{count-le}
+use Rattle.bits.proofs.SetLaws.{count-le, count-fewer, count-less}
 use Rattle.pack.specs.declared.line.Line.{Line}
 use Rattle.pack.specs.declared.line.Line.the-variants.{Under, BothUnder, UnderSome, SomeUnder, RoleUnder, ChainUnder, NoLine}
 use Rattle.pack.specs.World.{lineAt}
@@ -71,32 +70,6 @@ pub record Marked (ls : List Line) (S : ℕ → Bool) (s : Arrow) : Type 0 where
   pub there : s .place < length ls
   pub marked : S (s .place) ≡ true
   pub sided : s .side < 2
-
--- of two sets of numbers, one within the other, the count of the smaller is no more; and it is less where a number is missing
-module _ (p q : ℕ → Bool) (h : (j : ℕ) → p j ≡ true → q j ≡ true) where
-  pub count-fewer : (c : ℕ) → countTo p c ≤ countTo q c
-  unfolding countTo
-  count-fewer zero = omega arith
-  count-fewer (suc c) = go (p c) (q c) (h c) (count-fewer c)
-    where
-      go : (t u : Bool) → (t ≡ true → u ≡ true) → countTo p c ≤ countTo q c → countTo p c + cond t 1 0 ≤ countTo q c + cond u 1 0
-      go true u f l = rw (f refl) (omega arith)
-      go false true f l = omega arith
-      go false false f l = omega arith
-
-  pub count-less : (c k : ℕ) → k < c → p k ≡ false → q k ≡ true → countTo p c < countTo q c
-  unfolding countTo
-  count-less zero k l e g = absurd (omega arith)
-  count-less (suc c) k l e g = go (ℕ-discrete k c) (p c) (q c) refl refl (count-fewer c) (λ l. count-less c k l e g)
-    where
-      go : Dec (k ≡ c) → (t u : Bool) → p c ≡ t → q c ≡ u → countTo p c ≤ countTo q c → (k < c → countTo p c < countTo q c) → countTo p c + cond t 1 0 < countTo q c + cond u 1 0
-      go (yes z) true u e₁ e₂ w f = never e₁ (ap p (sym z) ∙ e)
-      go (yes z) false true e₁ e₂ w f = omega arith
-      go (yes z) false false e₁ e₂ w f = never (ap q (sym z) ∙ g) e₂
-      go (no z) true true e₁ e₂ w f = omega (arith, f (omega arith))
-      go (no z) true false e₁ e₂ w f = never (h c e₁) e₂
-      go (no z) false true e₁ e₂ w f = omega (arith, f (omega arith))
-      go (no z) false false e₁ e₂ w f = omega (arith, f (omega arith))
 
 -- how many names of the question a set lacks
 lackNames : ℕ → ℕ → (Name → Bool) → ℕ

@@ -6,29 +6,28 @@ use Prim.Native.Nat.{ℕ, zero, suc, _+_, _≤_, _<_}
 use native.Mathlib.Decide.{decLt}
 use native.Mathlib.Omega.{arith}
 use lib.ListN.{length}
-use Rattle.bits.proofs.Truth.{and-true, never}
-use Rattle.pack.specs.Marks.{marked, counted}
-use Rattle.pack.specs.Question.{Taken}
+use Rattle.bits.proofs.Truth.{never}
+use Rattle.marks.specs.Marks.{marked, marksOf, cutOut}
+use Rattle.pack.specs.Question.{counted, Taken}
 use Rattle.pack.specs.Record.{linesOf}
-use Rattle.pack.specs.World.{Follows, lineAt}
-use Rattle.pack.proofs.RecordLaws.{lines-length}
+use Rattle.pack.specs.World.{Follows}
 use Rattle.passes.specs.Passes.{verdict}
 use Rattle.engine.proofs.VerdictLaws.{question, valid}
+use Rattle.reasons.specs.Names.{TakenOf}
 use Rattle.reasons.specs.Printed.{IsPicked, IsPrinted, without, spared, picked, printed}
-use Rattle.reasons.specs.Reach.{IsModule, allIn, leftNames, reached, moduleOf, moduleIn}
-use Rattle.reasons.specs.OutMarks.{marksOf, checkReason}
-use Rattle.reasons.specs.Inner.{cutOut}
+use Rattle.reasons.specs.Reach.{IsModule, moduleOf}
+use Rattle.reasons.specs.OutMarks.{checkReason}
 use Rattle.reasons.specs.declared.set.SetAnswer.the-variants as answer
-use Rattle.reasons.specs.Set.{setWords, setAfter, setLeft, askSet, writtenSet}
+use Rattle.reasons.specs.Set.{setMarks, setAfter, setOut, askSet, writtenSet}
 use Rattle.engine.specs.Verdict.{askVerdict}
 use Rattle.pack.specs.declared.check.Checked.the-variants as checked
 use Rattle.pack.specs.declared.check.Refusal.{Refusal}
-use Rattle.reasons.proofs.OutLaws.{marks-length, marked-of, marked-past, marks-alike, both-taken}
+use Rattle.marks.proofs.WordLaws.{marks-length, marked-of, marks-alike}
 use Rattle.reasons.proofs.PickLaws.{without-true}
 use Rattle.reasons.proofs.PrintedLaws.{printed-is, printed-one}
-use Rattle.reasons.proofs.ReachLaws.{module-is}
-use Rattle.reasons.proofs.InsideLaws.{module-follows, inside-printed}
-use Rattle.reasons.proofs.HalveLaws.{cut-gone, cut-fewer, cut-marked}
+use Rattle.reasons.proofs.InsideLaws.{inside-true, module-follows, inside-printed}
+use Rattle.marks.proofs.CutLaws.{cut-gone, cut-fewer, cut-marked}
+use Rattle.reasons.proofs.ModuleLaws.{none-past, marks-module, marks-past}
 use Rattle.reasons.proofs.AskLaws.{taken-sixteen, lines-most, fewer-taken}
 
 -- words that mark a set of places mark what they mark
@@ -47,6 +46,10 @@ module _ (D : (ℕ → Bool) → Bool) where
       go false g spare keep = keep g
 
 module _ (n m : ℕ) (s ws : List ℕ) (a b : ℕ) (t : Taken n m s ws a b) (f : Follows (linesOf s) (counted s ws) a b) where
+  -- it is a question about a
+  about : TakenOf n m s ws a
+  about = (b, t)
+
   printed-fewer : (i : ℕ) → printed (linesOf s) (counted s ws) n m a b i ≡ true → counted s ws i ≡ true
   unfolding printed picked
   printed-fewer = spared-fewer (λ P. verdict (linesOf s) P n m a b) (length (linesOf s)) 0 (counted s ws)
@@ -55,15 +58,12 @@ module _ (n m : ℕ) (s ws : List ℕ) (a b : ℕ) (t : Taken n m s ws a b) (f :
   past-none : (P : ℕ → Bool) → ((i : ℕ) → P i ≡ true → counted s ws i ≡ true) → (i : ℕ) → length (linesOf s) ≤ i → P i ≡ false
   past-none P fewer i l = go (P i) refl
     where
-      q : marked ws i ≡ false
-      q = let r = question n m s ws a b (t .1) in r .marks .above i (omega (arith, r .pack .count, lines-length s))
-
       go : (v : Bool) → P i ≡ v → v ≡ false
-      go true e = never (fewer i e) q
+      go true e = never (fewer i e) (none-past n m s ws a about i l)
       go false e = refl
 
   -- WORDS THAT MARK A PRINTED SET are the words of the printed set
-  pub set-words : (r : List ℕ) → r ≡ marksOf (marked r) → ((i : ℕ) → marked r i ≡ true → counted s ws i ≡ true) → IsPrinted (linesOf s) (counted s ws) a b (marked r) → r ≡ setWords n m s ws a b
+  pub set-words : (r : List ℕ) → r ≡ marksOf (marked r) → ((i : ℕ) → marked r i ≡ true → counted s ws i ≡ true) → IsPrinted (linesOf s) (counted s ws) a b (marked r) → r ≡ setMarks n m s ws a b
   set-words r e fewer p = e ∙ marks-alike (marked r) (printed (linesOf s) (counted s ws) n m a b) (λ i _. go i (decLt i (length (linesOf s))))
     where
       go : (i : ℕ) → Dec (i < length (linesOf s)) → marked r i ≡ printed (linesOf s) (counted s ws) n m a b i
@@ -73,7 +73,7 @@ module _ (n m : ℕ) (s ws : List ℕ) (a b : ℕ) (t : Taken n m s ws a b) (f :
       go i (no l) = past-none (marked r) fewer i (omega arith) ∙ sym (past-none (printed (linesOf s) (counted s ws) n m a b) printed-fewer i (omega arith))
 
   -- A EQUAL TO B: everything goes
-  pub same-words : a ≡ b → (r : List ℕ) → r ≡ marksOf (cutOut (marked ws) 0 1024) → r ≡ setWords n m s ws a b
+  pub same-words : a ≡ b → (r : List ℕ) → r ≡ marksOf (cutOut (marked ws) 0 1024) → r ≡ setMarks n m s ws a b
   same-words same r e =
       set-words r (marks-again (cutOut (marked ws) 0 1024) r e) (λ i h. cut-fewer (marked ws) 0 1024 i (sym (is i) ∙ h)) (record {
         within = λ i l h. cut-fewer (marked ws) 0 1024 i (sym (is i) ∙ h);
@@ -84,26 +84,17 @@ module _ (n m : ℕ) (s ws : List ℕ) (a b : ℕ) (t : Taken n m s ws a b) (f :
       is : (i : ℕ) → marked r i ≡ cutOut (marked ws) 0 1024 i
       is i = ap (λ (v : List ℕ). marked v i) e ∙ ap (λ (p : ℕ → Bool). p i) (cut-marked ws 0 1024 (taken-sixteen n m s ws a b t))
 
-  module-fewer : (i : ℕ) → moduleOf (linesOf s) (counted s ws) n m a i ≡ true → counted s ws i ≡ true
-  unfolding moduleOf moduleIn
-  module-fewer i h = and-true (counted s ws i) (allIn (reached (linesOf s) (counted s ws) n m a) (leftNames (lineAt (linesOf s) i))) h .0
-
   -- THE MODULE FIRST: it is taken, the goal follows from it, and what is picked from it is the printed set
   module _ (inside : List ℕ) (e : inside ≡ marksOf (moduleOf (linesOf s) (counted s ws) n m a)) where
-    inside-is : (i : ℕ) → i < 1024 → marked inside i ≡ moduleOf (linesOf s) (counted s ws) n m a i
-    inside-is i l = ap (λ (v : List ℕ). marked v i) e ∙ marked-of (moduleOf (linesOf s) (counted s ws) n m a) i l
+    inside-module : IsModule (linesOf s) (counted s ws) a (marked inside)
+    inside-module = rw e (marks-module n m s ws a about)
 
     inside-fewer : (i : ℕ) → marked inside i ≡ true → counted s ws i ≡ true
-    inside-fewer i h = go (decLt i 1024)
+    inside-fewer i h = go (decLt i (length (linesOf s)))
       where
-        go : Dec (i < 1024) → counted s ws i ≡ true
-        go (yes l) = module-fewer i (sym (inside-is i l) ∙ h)
-        go (no l) = never h (ap (λ (v : List ℕ). marked v i) e ∙ marked-past (moduleOf (linesOf s) (counted s ws) n m a) i (omega arith))
-
-    inside-module : IsModule (linesOf s) (counted s ws) a (marked inside)
-    inside-module =
-        let im = module-is (linesOf s) (counted s ws) n m a (valid n m s ws a b (t .1)) (question n m s ws a b (t .1) .goalA) in
-        record { names = im .names; reached = im .reached; places = λ i l. inside-is i (omega (arith, lines-most n m s ws a b t)) ∙ im .places i l }
+        go : Dec (i < length (linesOf s)) → counted s ws i ≡ true
+        go (yes l) = inside-true (linesOf s) (counted s ws) (inside-module .names) i (sym (inside-module .places i l) ∙ h) .0
+        go (no l) = never h (ap (λ (v : List ℕ). marked v i) e ∙ marks-past n m s ws a about i (omega arith))
 
     pub inside-taken : Taken n m s inside a b
     inside-taken = fewer-taken n m s ws a b t inside (ap length e ∙ marks-length (moduleOf (linesOf s) (counted s ws) n m a)) inside-fewer
@@ -115,25 +106,25 @@ module _ (n m : ℕ) (s ws : List ℕ) (a b : ℕ) (t : Taken n m s ws a b) (f :
     inside-follows =
         module-follows (linesOf s) (counted s ws) n m a b (valid n m s ws a b (t .1)) (question n m s ws a b (t .1) .pack .n-some) (question n m s ws a b (t .1) .goalA) (marked inside) inside-module .0 f
 
-    pub inside-set : (r : List ℕ) → (r ≡ marksOf (marked r)) × ((i : ℕ) → marked r i ≡ true → marked inside i ≡ true) → IsPicked (length (linesOf s)) (λ P. Follows (linesOf s) P a b) (marked inside) (marked r) → r ≡ setWords n m s ws a b
+    pub inside-set : (r : List ℕ) → (r ≡ marksOf (marked r)) × ((i : ℕ) → marked r i ≡ true → marked inside i ≡ true) → IsPicked (length (linesOf s)) (λ P. Follows (linesOf s) P a b) (marked inside) (marked r) → r ≡ setMarks n m s ws a b
     inside-set r w p =
         set-words r (w .0) (λ i h. inside-fewer i (w .1 i h))
         (inside-printed (linesOf s) (counted s ws) n m a b (valid n m s ws a b (t .1)) (question n m s ws a b (t .1) .pack .n-some) (question n m s ws a b (t .1) .goalA) (marked inside) inside-module (marked r) p)
 
 module _ (n m : ℕ) (s ws : List ℕ) (a b : ℕ) (out : List ℕ) where
-  -- 1 TO 5: the out words are as they were
-  pub set-refused : {why : Refusal} → checkReason n m s ws a b out ≡ checked.Refused why → (askSet n m s ws a b out ≡ answer.Refused why) × (writtenSet n m s ws a b out ≡ out)
+  -- 1 TO 5: the out marks are as they were
+  pub set-refused : {why : Refusal} → checkReason n m s ws a b (length out) ≡ checked.Refused why → (askSet n m s ws a b out ≡ answer.Refused why) × (writtenSet n m s ws a b out ≡ out)
   unfolding askSet writtenSet askVerdict
   set-refused e = (rw e, rw e)
 
   -- taken: the answer goes by the verdict
-  pub set-asked : {k : ℕ} → checkReason n m s ws a b out ≡ checked.Count k
-      → (askSet n m s ws a b out ≡ setAfter (askVerdict n m s ws a b) (setWords n m s ws a b))
-      × (writtenSet n m s ws a b out ≡ setLeft (setAfter (askVerdict n m s ws a b) (setWords n m s ws a b)) (setWords n m s ws a b) out)
+  pub set-asked : {k : ℕ} → checkReason n m s ws a b (length out) ≡ checked.Count k
+      → (askSet n m s ws a b out ≡ setAfter (askVerdict n m s ws a b) (setMarks n m s ws a b))
+      × (writtenSet n m s ws a b out ≡ setOut (setAfter (askVerdict n m s ws a b) (setMarks n m s ws a b)) (setMarks n m s ws a b) out)
   unfolding askSet writtenSet
-  set-asked e = let both = both-taken n m s ws a b out e .1 in (rw both, rw both)
+  set-asked e = (rw e, rw e)
 
-  -- of the marks out only the length is judged
+  -- of the out marks only the length is judged
   pub set-length : (out′ : List ℕ) → length out ≡ length out′ → askSet n m s ws a b out ≡ askSet n m s ws a b out′
   unfolding askSet
   set-length out′ e = rw e

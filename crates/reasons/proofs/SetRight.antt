@@ -1,14 +1,14 @@
 -- The printed set's call is right, and nothing else keeps its promise.
-use mathlib.Core.Path.{_≡_, refl, sym}
+use mathlib.Core.Path.{_≡_, refl, sym, _∙_}
 use mathlib.Core.Bool.{true}
 use mathlib.Core.List.{List}
 use Prim.Native.Nat.{ℕ, _<_}
 use native.Mathlib.Omega.{arith}
 use lib.ListN.{length}
-use borrow.Author.Tests.{eq-eqb}
 use Rattle.bits.proofs.Promises.{no-second}
-use Rattle.pack.specs.Marks.{marked, counted, markCount}
-use Rattle.pack.specs.Question.{Taken}
+use Rattle.marks.specs.Marks.{marked, markCount}
+use Rattle.pack.specs.declared.check.Checked.the-variants.{Count}
+use Rattle.pack.specs.Question.{counted, Taken}
 use Rattle.pack.specs.Record.{linesOf}
 use Rattle.pack.specs.World.{Follows}
 use Rattle.engine.specs.declared.verdict.VerdictAnswer.the-variants as verdict
@@ -17,38 +17,39 @@ use Rattle.engine.proofs.OursLaws.{verdict-right}
 use Rattle.reasons.specs.declared.set.SetAnswer.{SetAnswer}
 use Rattle.reasons.specs.declared.set.SetAnswer.the-variants as answer
 use Rattle.reasons.specs.Printed.{IsPrinted, without, printed}
-use Rattle.reasons.specs.OutMarks.{marksBoth}
-use Rattle.reasons.specs.Set.{setWords, askSet, writtenSet}
-use Rattle.reasons.proofs.OutLaws.{marked-of}
+use Rattle.reasons.specs.OutMarks.{checkReason}
+use Rattle.reasons.specs.Set.{setMarks, askSet, writtenSet}
+use Rattle.marks.proofs.WordLaws.{marked-of}
+use Rattle.reasons.proofs.OutLaws.{reason-asked}
 use Rattle.reasons.proofs.PickLaws.{picked-same}
 use Rattle.reasons.proofs.PrintedLaws.{follows-more, printed-is, printed-needs}
 use Rattle.reasons.proofs.AskLaws.{lines-most}
 
--- NO SECOND RESULT, no second content of the out words
+-- NO SECOND RESULT, no second content of the out marks
 pub set-fixed : (n m : ℕ) (s ws : List ℕ) (a b : ℕ) (out out₁ out₂ : List ℕ) (r r′ : SetAnswer)
     → (r ≡ askSet n m s ws a b out) × (out₁ ≡ writtenSet n m s ws a b out) → (r′ ≡ askSet n m s ws a b out) × (out₂ ≡ writtenSet n m s ws a b out) → (r ≡ r′) × (out₁ ≡ out₂)
 set-fixed n m s ws a b out out₁ out₂ r r′ p q = (no-second (p .0) (q .0), no-second (p .1) (q .1))
 
 module _ (n m : ℕ) (s ws : List ℕ) (a b : ℕ) (t : Taken n m s ws a b) (out : List ℕ) (sixteen : length out ≡ 16) where
-  both : marksBoth ws out ≡ ws
-  both = rw (eq-eqb (length out) 16 sixteen)
+  both : checkReason n m s ws a b (length out) ≡ Count (t .0)
+  both = reason-asked n m s ws a b (length out) sixteen ∙ t .1
 
-  -- THE GOAL FOLLOWS: the out words mark the printed set, and their number comes back
-  pub set-found : Follows (linesOf s) (counted s ws) a b → (writtenSet n m s ws a b out ≡ setWords n m s ws a b) × (askSet n m s ws a b out ≡ answer.Count (markCount (writtenSet n m s ws a b out)))
+  -- THE GOAL FOLLOWS: the out marks mark the printed set, and their number comes back
+  pub set-found : Follows (linesOf s) (counted s ws) a b → (writtenSet n m s ws a b out ≡ setMarks n m s ws a b) × (askSet n m s ws a b out ≡ answer.Count (markCount (writtenSet n m s ws a b out)))
   unfolding askSet writtenSet
   set-found f = rw (both, verdict-right n m s ws a b (t .1) .0 .1 f) (refl, refl)
 
-  -- IT DOES NOT: 7, and the out words are as they were
+  -- IT DOES NOT: 7, and the out marks are as they were
   pub set-none : (Follows (linesOf s) (counted s ws) a b → ⊥) → (askSet n m s ws a b out ≡ answer.NotFollows) × (writtenSet n m s ws a b out ≡ out)
   unfolding askSet writtenSet
   set-none f = rw (both, verdict-right n m s ws a b (t .1) .1 .1 f) (refl, refl)
 
-  -- THE OUT WORDS MARK THE ONE SET OF DOCUMENT 01'S ORDER
+  -- THE OUT MARKS MARK THE ONE SET OF DOCUMENT 01'S ORDER
   pub set-printed : Follows (linesOf s) (counted s ws) a b → IsPrinted (linesOf s) (counted s ws) a b (marked (writtenSet n m s ws a b out))
   set-printed f =
       let q = question n m s ws a b (t .1) in
       rw (set-found f .0)
-      (picked-same (length (linesOf s)) (λ P. Follows (linesOf s) P a b) (follows-more (linesOf s) a b) (counted s ws) (counted s ws) (printed (linesOf s) (counted s ws) n m a b) (marked (setWords n m s ws a b)) (λ i l. refl)
+      (picked-same (length (linesOf s)) (λ P. Follows (linesOf s) P a b) (follows-more (linesOf s) a b) (counted s ws) (counted s ws) (printed (linesOf s) (counted s ws) n m a b) (marked (setMarks n m s ws a b)) (λ i l. refl)
       (λ i l. sym (marked-of (printed (linesOf s) (counted s ws) n m a b) i (omega (arith, lines-most n m s ws a b t))))
       (printed-is (linesOf s) n m a b (valid n m s ws a b (t .1)) (q .pack .n-some) (q .goalA) (counted s ws) f))
 

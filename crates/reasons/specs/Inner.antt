@@ -1,11 +1,7 @@
--- What inner functions promise to each other: places cut out, and where the next one is that is kept. No public promise cites this page.
-use mathlib.Core.Bool.{Bool, not, _&&_}
+-- What inner functions promise to each other: where the next place is that is kept. No public promise cites this page.
+use mathlib.Core.Bool.{Bool}
 use Prim.Native.Nat.{ℕ, _+_, _≤_, _<_}
-use lib.Dec.{leb, ltb}
-
--- P but for the places from i on and below k
-unfoldable pub cutOut : (ℕ → Bool) → ℕ → ℕ → ℕ → Bool
-cutOut P i k j = P j && not (leb i j && ltb j k)
+use Rattle.marks.specs.Marks.{cutOut}
 
 -- the next place that is kept lies from lo on and below hi: the places from i on can go together below lo, and cannot below hi
 pub record Between (F : (ℕ → Bool) → Type 0) (P : ℕ → Bool) (i lo hi : ℕ) : Type 0 where

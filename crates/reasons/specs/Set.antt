@@ -1,40 +1,49 @@
--- What the printed set's call answers, and what the out words hold afterwards.
+-- What the printed set's call answers, and the out marks afterwards.
 use Prim.Native.Nat.{ℕ}
 use mathlib.Core.List.{List}
+use lib.ListN.{length}
+use Rattle.marks.specs.Marks.{markCount, marksOf}
+use Rattle.pack.specs.declared.check.Checked.{Checked}
+use Rattle.pack.specs.declared.check.Checked.the-variants as checked
 use Rattle.pack.specs.Answers.{refusalNumber, refusalPlace}
-use Rattle.pack.specs.Marks.{counted, markCount}
+use Rattle.pack.specs.Question.{counted}
 use Rattle.pack.specs.Record.{linesOf}
 use Rattle.engine.specs.declared.verdict.VerdictAnswer.{VerdictAnswer}
 use Rattle.engine.specs.declared.verdict.VerdictAnswer.the-variants as verdict
 use Rattle.engine.specs.Verdict.{askVerdict}
 use Rattle.reasons.specs.declared.set.SetAnswer.{SetAnswer}
 use Rattle.reasons.specs.declared.set.SetAnswer.the-variants as answer
-use Rattle.reasons.specs.OutMarks.{marksOf, marksBoth}
+use Rattle.reasons.specs.OutMarks.{checkReason}
 use Rattle.reasons.specs.Printed.{printed}
 
--- the words that mark the printed set
-abbrev pub setWords : ℕ → ℕ → List ℕ → List ℕ → ℕ → ℕ → List ℕ
-setWords n m s ws a b = marksOf (printed (linesOf s) (counted s ws) n m a b)
+-- the marks of the printed set
+abbrev pub setMarks : ℕ → ℕ → List ℕ → List ℕ → ℕ → ℕ → List ℕ
+setMarks n m s ws a b = marksOf (printed (linesOf s) (counted s ws) n m a b)
 
--- 1 to 6 as the verdict has them, 7 NOT FOLLOWS, else the number of marked records
+-- 6 as the verdict has it, 7 NOT FOLLOWS, else the number of records in the set
 abbrev pub setAfter : VerdictAnswer → List ℕ → SetAnswer
-setAfter (verdict.Refused why) words = answer.Refused why
-setAfter verdict.TooLong words = answer.TooLong
-setAfter verdict.Not words = answer.NotFollows
-setAfter verdict.Follows words = answer.Count (markCount words)
+setAfter (verdict.Refused why) ours = answer.Refused why
+setAfter verdict.TooLong ours = answer.TooLong
+setAfter verdict.Not ours = answer.NotFollows
+setAfter verdict.Follows ours = answer.Count (markCount ours)
+
+-- 1 to 5 come first
+abbrev pub setAnswer : Checked → VerdictAnswer → List ℕ → SetAnswer
+setAnswer (checked.Refused why) said ours = answer.Refused why
+setAnswer (checked.Count k) said ours = setAfter said ours
 
 unfoldable pub askSet : ℕ → ℕ → List ℕ → List ℕ → ℕ → ℕ → List ℕ → SetAnswer
-askSet n m s ws a b out = setAfter (askVerdict n m s (marksBoth ws out) a b) (setWords n m s ws a b)
+askSet n m s ws a b out = setAnswer (checkReason n m s ws a b (length out)) (askVerdict n m s ws a b) (setMarks n m s ws a b)
 
--- the out words afterwards: those of the set, all 16; on a refusal, as they were
-abbrev pub setLeft : SetAnswer → List ℕ → List ℕ → List ℕ
-setLeft (answer.Refused why) words out = out
-setLeft answer.TooLong words out = out
-setLeft answer.NotFollows words out = out
-setLeft (answer.Count k) words out = words
+-- the out marks afterwards: those of the set; on a refusal, as they were
+abbrev pub setOut : SetAnswer → List ℕ → List ℕ → List ℕ
+setOut (answer.Refused why) ours out = out
+setOut answer.TooLong ours out = out
+setOut answer.NotFollows ours out = out
+setOut (answer.Count k) ours out = ours
 
 unfoldable pub writtenSet : ℕ → ℕ → List ℕ → List ℕ → ℕ → ℕ → List ℕ → List ℕ
-writtenSet n m s ws a b out = setLeft (askSet n m s ws a b out) (setWords n m s ws a b) out
+writtenSet n m s ws a b out = setOut (askSet n m s ws a b out) (setMarks n m s ws a b) out
 
 -- document 01's table: the number, and the value that comes back with it
 abbrev pub setNumber : SetAnswer → ℕ

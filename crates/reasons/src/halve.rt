@@ -4,17 +4,16 @@ ghost use mathlib.Core.Bool.{true};
 ghost use Prim.Native.Nat.{ℕ, _+_, _-_, _<_, _≤_};
 ghost use lib.ListN.{length};
 ghost use Rattle.bits.specs.Sets.{lowest};
-ghost use Rattle.pack.specs.Marks.{marked, counted};
-ghost use Rattle.pack.specs.Question.{Taken};
+ghost use Rattle.marks.specs.Marks.{marked, marksOf, cutOut};
+ghost use Rattle.pack.specs.Question.{counted, Taken};
 ghost use Rattle.pack.specs.Record.{linesOf};
 ghost use Rattle.pack.specs.World.{Follows};
 ghost use Rattle.passes.specs.Passes.{verdict};
 ghost use Rattle.reasons.specs.Printed.{IsPicked};
-ghost use Rattle.reasons.specs.OutMarks.{marksOf};
-ghost use Rattle.reasons.specs.Inner.{cutOut, Between, Next};
-use crate::cut::cut_marks;
+ghost use Rattle.reasons.specs.Inner.{Between, Next};
 use engine::verdict::goal_follows;
-use pack::marks::next_marked;
+use marks::change::cut_marks;
+use marks::look::next_marked;
 
 // Places from `from` on and below `to`.
 pub struct Range {
@@ -122,12 +121,12 @@ pub fn pick<'a>(
     ensures words { λ r. ⌜ (r ≡ marksOf (marked r)) × ((i : ℕ) → marked r i ≡ true → marked given i ≡ true) ⌝ }
     ensures picked { λ r. ⌜ IsPicked (length (linesOf (now (pack .entry)))) (λ P. Follows (linesOf (now (pack .entry))) P a b) (counted (now (pack .entry)) given) (counted (now (pack .entry)) r) ⌝ }
 {
-    let mut left = given;
-    let mut i = next_marked(&left, 0);
+    let mut rest = given;
+    let mut i = next_marked(&rest, 0);
     while i < 1024 {
-        let k = next_kept(n, m, pack, &left, a, b, i);
-        left = cut_marks(&left, i, k);
-        i = next_marked(&left, k + 1);
+        let k = next_kept(n, m, pack, &rest, a, b, i);
+        rest = cut_marks(&rest, i, k);
+        i = next_marked(&rest, k + 1);
     }
-    left
+    rest
 }

@@ -1,5 +1,4 @@
 // Why a goal follows: the module and the printed set.
-pub mod cut;
 pub mod halve;
 pub mod module;
 pub mod out;

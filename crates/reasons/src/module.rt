@@ -1,51 +1,26 @@
 // The module for a concept: the records that count and whose left-side names are all reached from it.
 ghost use mathlib.Core.Path.{_≡_};
-ghost use mathlib.Core.Bool.{not, _&&_};
-ghost use Prim.Native.Nat.{ℕ, _^_, _<_};
 ghost use lib.ListN.{length};
-ghost use Rattle.bits.specs.Bit.{has};
-ghost use Rattle.pack.specs.Marks.{marked, markCount};
-ghost use Rattle.reasons.specs.OutMarks.{marksOf};
+ghost use Rattle.marks.specs.Marks.{markCount};
 ghost use Rattle.reasons.specs.Names.{TakenOf};
 ghost use Rattle.reasons.specs.Module.{moduleMarks, askModule, writtenModule};
 use crate::out::check_reason;
-use crate::out::put_marks;
 use crate::reach::unreached;
+use marks::change::marks_without;
+use marks::change::put_marks;
+use marks::look::count_marked;
 use pack::check::Checked;
-use pack::marks::count_marked;
-
-// The marked ones of 64 places that are not left.
-fn taken_word(w: u64, left: u64) -> u64
-    ensures { λ r. ⌜ (r < 2 ^ 64) × ((j : ℕ) → j < 64 → has r j ≡ (has w j && not (has left j))) ⌝ }
-{
-    w & !left
-}
-
-// The marks but for those that are left.
-fn taken_marks<'a>(marks: &'a [u64], left: &'a [u64]) -> [u64; 16]
-    requires { ⌜ (length (now marks) ≡ 16) × (length (now left) ≡ 16) ⌝ }
-    ensures { λ r. ⌜ r ≡ marksOf (λ i. marked (now (marks .entry)) i && not (marked (now (left .entry)) i)) ⌝ }
-{
-    let mut words = [0u64; 16];
-    let mut j = 0;
-    while j < 16 {
-        let w = taken_word(marks[j], left[j]);
-        words[j] = w;
-        j += 1;
-    }
-    words
-}
 
 // The marks of the module for concept a of a question that is taken.
 pub fn module_of<'a>(n: usize, m: usize, pack: &'a [u8], marks: &'a [u64], a: usize) -> [u64; 16]
     requires { ⌜ TakenOf n m (now pack) (now marks) a ⌝ }
     ensures { λ r. ⌜ r ≡ moduleMarks n m (now (pack .entry)) (now (marks .entry)) a ⌝ }
 {
-    let left = unreached(pack, marks, a as u8);
-    taken_marks(marks, &left)
+    let others = unreached(pack, marks, a as u8);
+    marks_without(marks, &others)
 }
 
-// The module of a question that is taken into the marks out, and how many records they mark.
+// The module of a question that is taken into the out marks, and how many records they mark.
 fn put_module<'a>(
     n: usize,
     m: usize,
@@ -62,7 +37,7 @@ fn put_module<'a>(
     Checked::Count(count_marked(out))
 }
 
-// The module for concept a, for any input and any lent marks out.
+// The module for concept a, for any input and any lent out marks.
 pub fn module_for<'a>(
     n: usize,
     m: usize,

@@ -1,18 +1,20 @@
-// The names reached from a concept: passes over the records that are left until one adds no name.
+// The names reached from a concept: passes over the records that wait until one adds no name.
 ghost use mathlib.Core.Path.{_≡_};
 ghost use mathlib.Core.Bool.{not, _&&_};
-ghost use Prim.Native.Nat.{ℕ, _%_, _≤_, _<_};
+ghost use Prim.Native.Nat.{ℕ, _≤_, _<_};
 ghost use lib.Dec.{eqb};
 ghost use lib.ListN.{length};
 ghost use Rattle.bits.specs.Bit.{has};
-ghost use Rattle.pack.specs.Marks.{marked, counted};
+ghost use Rattle.marks.specs.Marks.{marked};
+ghost use Rattle.pack.specs.Question.{counted};
 ghost use Rattle.pack.specs.Record.{linesOf, ValidLine, Valid};
 ghost use Rattle.reasons.specs.Reach.{concept, role, leftNames, rightNames, allIn};
 ghost use Rattle.reasons.specs.Names.{nameIn, withName, withNames, withLine, Passed, Unreached};
-use crate::cut::cut_marks;
+use marks::change::cut_marks;
+use marks::change::unmark;
+use marks::look::next_marked;
 use pack::check::line_at;
 use pack::line::Line;
-use pack::marks::next_marked;
 
 // Names of a question: a bit for each concept, and a bit for each role.
 pub struct Names {
@@ -40,7 +42,7 @@ fn both_set(w: u64, x: u8, v: u64, y: u8) -> bool
 }
 
 // Are all names of the line's left side reached?
-pub fn left_reached(l: Line, names: Names) -> bool
+fn left_reached(l: Line, names: Names) -> bool
     requires { ⌜ ValidLine 64 8 l ⌝ }
     ensures { λ r. ⌜ r ≡ allIn (nameIn names) (leftNames l) ⌝ }
 {
@@ -94,48 +96,30 @@ fn with_right(l: Line, names: Names) -> Names
     }
 }
 
-// A word without bit j mod 64.
-fn without_bit(w: u64, j: usize) -> u64
-    ensures { λ r. ⌜ ((b : ℕ) → b < 64 → has r b ≡ (has w b && not (eqb (j % 64) b))) ⌝ }
-{
-    let bit = bits::with_bit(0, j);
-    w & !bit
-}
-
-// The marks without place i.
-fn unmark(left: &mut [u64], i: usize)
-    requires { ⌜ (length (now left) ≡ 16) × (i < 1024) ⌝ }
-    ensures { λ _. ⌜ (length (now (left .exit)) ≡ 16) × ((k : ℕ) → marked (now (left .exit)) k ≡ (marked (now (left .entry)) k && not (eqb i k))) ⌝ }
-{
-    let at = i / 64;
-    let w = without_bit(left[at], i);
-    left[at] = w;
-}
-
-// The line at place i: with all names of its left side those of its right side, and then the place is no longer left.
-fn reach_line(l: Line, i: usize, names: Names, left: &mut [u64]) -> Names
-    requires { ⌜ ValidLine 64 8 l × (length (now left) ≡ 16) × (i < 1024) ⌝ }
+// The line at place i: with all names of its left side those of its right side, and then the place waits no longer.
+fn reach_line(l: Line, i: usize, names: Names, waiting: &mut [u64]) -> Names
+    requires { ⌜ ValidLine 64 8 l × (length (now waiting) ≡ 16) × (i < 1024) ⌝ }
     ensures names { λ r. ⌜ r ≡ withLine names l ⌝ }
-    ensures left { λ r. ⌜ (length (now (left .exit)) ≡ 16) × ((k : ℕ) → marked (now (left .exit)) k ≡ (marked (now (left .entry)) k && not (allIn (nameIn names) (leftNames l) && eqb i k))) ⌝ }
+    ensures waiting { λ r. ⌜ (length (now (waiting .exit)) ≡ 16) × ((k : ℕ) → marked (now (waiting .exit)) k ≡ (marked (now (waiting .entry)) k && not (allIn (nameIn names) (leftNames l) && eqb i k))) ⌝ }
 {
     if left_reached(l, names) {
-        unmark(left, i);
+        unmark(waiting, i);
         return with_right(l, names);
     }
     names
 }
 
-// A pass: each record that is left, by place.
-fn reach_pass(pack: &[u8], names: Names, left: &mut [u64]) -> Names
-    requires { ⌜ Valid 64 8 (linesOf (now pack)) × (length (now pack) ≤ 8192) × (length (now left) ≡ 16) ⌝ }
-    ensures { λ r. ⌜ (length (now (left .exit)) ≡ 16) × Passed (linesOf (now (pack .entry))) (marked (now (left .entry))) (marked (now (left .exit))) (length (linesOf (now (pack .entry)))) (nameIn names) (nameIn r) ⌝ }
+// A pass: each record that waits, by place.
+fn reach_pass(pack: &[u8], names: Names, waiting: &mut [u64]) -> Names
+    requires { ⌜ Valid 64 8 (linesOf (now pack)) × (length (now pack) ≤ 8192) × (length (now waiting) ≡ 16) ⌝ }
+    ensures { λ r. ⌜ (length (now (waiting .exit)) ≡ 16) × Passed (linesOf (now (pack .entry))) (marked (now (waiting .entry))) (marked (now (waiting .exit))) (length (linesOf (now (pack .entry)))) (nameIn names) (nameIn r) ⌝ }
 {
     let records = pack.len() / 8;
     let mut reached = names;
-    let mut i = next_marked(left, 0);
+    let mut i = next_marked(waiting, 0);
     while i < records {
-        reached = reach_line(line_at(pack, i), i, reached, left);
-        i = next_marked(left, i + 1);
+        reached = reach_line(line_at(pack, i), i, reached, waiting);
+        i = next_marked(waiting, i + 1);
     }
     reached
 }
@@ -150,7 +134,7 @@ fn same_names(one: Names, other: Names) -> bool
     false
 }
 
-// The records that count and whose left side concept a does not reach: what is left, of a copy of the marks, when a pass adds no name.
+// The records that count and whose left side concept a does not reach: what waits still, of a copy of the marks, when a pass adds no name.
 pub fn unreached<'a>(pack: &'a [u8], marks: &'a [u64], a: u8) -> [u64; 16]
     requires { ⌜ Valid 64 8 (linesOf (now pack)) × (length (now pack) ≤ 8192) × (length (now marks) ≡ 16) × (a < 64) ⌝ }
     ensures { λ r. ⌜ (length r ≡ 16) × Unreached (linesOf (now (pack .entry))) (counted (now (pack .entry)) (now (marks .entry))) a (marked r) ⌝ }
@@ -160,11 +144,11 @@ pub fn unreached<'a>(pack: &'a [u8], marks: &'a [u64], a: u8) -> [u64; 16]
         roles: 0,
     };
     let mut names = with_concept(none, a);
-    let mut left = cut_marks(marks, 0, 0);
+    let mut waiting = cut_marks(marks, 0, 0);
     loop {
-        let next = reach_pass(pack, names, &mut left);
+        let next = reach_pass(pack, names, &mut waiting);
         if same_names(next, names) {
-            return left;
+            return waiting;
         }
         names = next;
     }

@@ -1,23 +1,22 @@
-// The printed set: numbers 1 to 7 of document 01's table, else the set in the out words and the number of its records.
+// The printed set: numbers 1 to 7 of document 01's table, else the set in the out marks and the number of its records.
 ghost use mathlib.Core.Path.{_≡_};
 ghost use lib.ListN.{length};
-ghost use Rattle.pack.specs.Marks.{counted};
-ghost use Rattle.pack.specs.Question.{Taken};
+ghost use Rattle.pack.specs.Question.{counted, Taken};
 ghost use Rattle.pack.specs.Record.{linesOf};
 ghost use Rattle.pack.specs.World.{Follows};
-ghost use Rattle.reasons.specs.Set.{setWords, setAfter, setLeft, askSet, writtenSet};
+ghost use Rattle.reasons.specs.Set.{setMarks, setAfter, setOut, askSet, writtenSet};
 ghost use Rattle.engine.specs.Verdict.{askVerdict};
 ghost use Rattle.engine.specs.declared.verdict.VerdictAnswer.the-variants as verdict;
-use crate::cut::cut_marks;
 use crate::halve::pick;
 use crate::module::module_of;
 use crate::out::check_reason;
-use crate::out::put_marks;
 use engine::verdict::VerdictAnswer;
 use engine::verdict::verdict;
+use marks::change::cut_marks;
+use marks::change::put_marks;
+use marks::look::count_marked;
 use pack::check::Checked;
 use pack::check::Refusal;
-use pack::marks::count_marked;
 
 // What the printed set's call answers.
 pub enum SetAnswer {
@@ -30,7 +29,7 @@ pub enum SetAnswer {
 // The marks of the printed set of a goal that follows: picked from its module. For A equal to B nothing is needed, and all is cut out.
 fn set_of<'a>(n: usize, m: usize, pack: &'a [u8], marks: &'a [u64], a: usize, b: usize) -> [u64; 16]
     requires { ⌜ Taken n m (now pack) (now marks) a b × Follows (linesOf (now pack)) (counted (now pack) (now marks)) a b ⌝ }
-    ensures { λ r. ⌜ r ≡ setWords n m (now (pack .entry)) (now (marks .entry)) a b ⌝ }
+    ensures { λ r. ⌜ r ≡ setMarks n m (now (pack .entry)) (now (marks .entry)) a b ⌝ }
 {
     if a == b {
         return cut_marks(marks, 0, 1024);
@@ -39,7 +38,7 @@ fn set_of<'a>(n: usize, m: usize, pack: &'a [u8], marks: &'a [u64], a: usize, b:
     pick(n, m, pack, inside, a, b)
 }
 
-// The printed set into the out words, and how many records they mark.
+// The printed set into the out marks, and how many records they mark.
 fn put_set<'a>(
     n: usize,
     m: usize,
@@ -50,14 +49,14 @@ fn put_set<'a>(
     out: &mut [u64],
 ) -> SetAnswer
     requires { ⌜ Taken n m (now pack) (now marks) a b × Follows (linesOf (now pack)) (counted (now pack) (now marks)) a b × (length (now out) ≡ 16) ⌝ }
-    ensures { λ r. ⌜ (r ≡ setAfter verdict.Follows (setWords n m (now (pack .entry)) (now (marks .entry)) a b)) × (now (out .exit) ≡ setWords n m (now (pack .entry)) (now (marks .entry)) a b) ⌝ }
+    ensures { λ r. ⌜ (r ≡ setAfter verdict.Follows (setMarks n m (now (pack .entry)) (now (marks .entry)) a b)) × (now (out .exit) ≡ setMarks n m (now (pack .entry)) (now (marks .entry)) a b) ⌝ }
 {
     let words = set_of(n, m, pack, marks, a, b);
     put_marks(&words, out);
     SetAnswer::Count(count_marked(out))
 }
 
-// The set of a question that is taken where the goal follows, else 6 or 7 and the out words as they were.
+// The set of a question that is taken where the goal follows, else 6 or 7 and the out marks as they were.
 fn set_taken<'a>(
     n: usize,
     m: usize,
@@ -68,7 +67,7 @@ fn set_taken<'a>(
     out: &mut [u64],
 ) -> SetAnswer
     requires { ⌜ Taken n m (now pack) (now marks) a b × (length (now out) ≡ 16) ⌝ }
-    ensures { λ r. ⌜ (r ≡ setAfter (askVerdict n m (now (pack .entry)) (now (marks .entry)) a b) (setWords n m (now (pack .entry)) (now (marks .entry)) a b)) × (now (out .exit) ≡ setLeft r (setWords n m (now (pack .entry)) (now (marks .entry)) a b) (now (out .entry))) ⌝ }
+    ensures { λ r. ⌜ (r ≡ setAfter (askVerdict n m (now (pack .entry)) (now (marks .entry)) a b) (setMarks n m (now (pack .entry)) (now (marks .entry)) a b)) × (now (out .exit) ≡ setOut r (setMarks n m (now (pack .entry)) (now (marks .entry)) a b) (now (out .entry))) ⌝ }
 {
     let answer = verdict(n, m, pack, marks, a, b);
     match answer {
@@ -79,7 +78,7 @@ fn set_taken<'a>(
     }
 }
 
-// The printed set, for any input and any lent out words.
+// The printed set, for any input and any lent out marks.
 pub fn printed_set<'a>(
     n: usize,
     m: usize,

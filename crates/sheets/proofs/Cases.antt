@@ -6,9 +6,10 @@ use lib.ListN.{replicate}
 use Rattle.bits.specs.Bit.{has}
 use Rattle.bits.specs.Sets.{lowest, every, some}
 use Rattle.pack.specs.World.{lineAt, implies, obeysAt, obeys}
-use Rattle.pack.specs.Bytes.{littleEndian, listed}
+use Rattle.pack.specs.Bytes.{littleEndian}
+use Rattle.bits.specs.Lists.{listed}
 use Rattle.pack.specs.Record.{lineIn, keepsIn, linesOf}
-use Rattle.pack.specs.Marks.{marked, marksFit}
+use Rattle.marks.specs.Marks.{marked, marksFit}
 use Rattle.pack.specs.Pack.{checkRecords, checkPack}
 use Rattle.pack.specs.Question.{checkQuestion}
 use Rattle.pack.specs.Rules.{free, sameFact}

@@ -20,8 +20,7 @@ use Rattle.pack.specs.declared.line.Line.{Line}
 use Rattle.pack.specs.declared.line.Line.the-variants.{Under, BothUnder, UnderSome, SomeUnder, RoleUnder, ChainUnder, NoLine}
 use Rattle.pack.specs.World.{World, Is, Obeys, Follows, lineAt, obeys}
 use Rattle.pack.specs.Record.{linesOf, ValidLine, Valid}
-use Rattle.pack.specs.Marks.{counted}
-use Rattle.pack.specs.Question.{checkQuestion}
+use Rattle.pack.specs.Question.{counted, checkQuestion}
 use Rattle.pack.proofs.WorldLaws.{obeys-line, line-obeys}
 use Rattle.sheets.specs.declared.no.NoAnswer.{NoAnswer}
 use Rattle.sheets.specs.declared.no.NoAnswer.the-variants as no

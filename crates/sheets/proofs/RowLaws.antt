@@ -1,16 +1,15 @@
 -- Laws of rows: searches and tests over 64 bits, and over the k things that a row speaks of.
 use mathlib.Core.Path.{_≡_, refl, sym, ap, _∙_}
-use mathlib.Core.Bool.{Bool, true, false, not, _&&_, _||_}
-use Prim.Native.Nat.{ℕ, suc, _+_, _-_, _^_, _%_, _≤_, _<_}
+use mathlib.Core.Bool.{Bool, true, false, not, _&&_}
+use Prim.Native.Nat.{ℕ, suc, _-_, _^_, _≤_, _<_}
 use native.Mathlib.Decide.{decLt}
-use native.Mathlib.Nat.{mod-eq-of-lt}
 use native.Mathlib.Omega.{arith, by-contra}
 use lib.Bits.{bitAnd}
 use lib.Dec.{eqb, ltb, leb}
-use borrow.Author.Tests.{lt-ltb, le-ltb, ltb-true, leb-true, le-leb, eq-eqb, ne-eqb, eqb-true, eqb-false}
+use borrow.Author.Tests.{lt-ltb, ltb-true, leb-true, le-leb, eq-eqb, ne-eqb, eqb-true, eqb-false}
 use Rattle.bits.specs.Bit.{has}
 use Rattle.bits.specs.Sets.{lowest, every, some}
-use Rattle.bits.proofs.Truth.{and-true, true-and, and-false, and-yes, or-false, alike, never}
+use Rattle.bits.proofs.Truth.{and-true, true-and, and-false, and-yes, alike, never}
 use Rattle.bits.proofs.SetLaws.{Lowest, lowest-is, lowest-at, every-true, true-every, every-false, some-true, true-some, some-false}
 use Rattle.bits.proofs.BitLaws.{meets-none, none-meets, contained, contains}
 use Rattle.pack.specs.World.{implies}
@@ -82,10 +81,6 @@ some-things p q k h e f =
     at j s (yes l) = true-some q k j l (sym (e j l) ∙ s)
     at j s (no l) = never s (f j (omega arith))
 
--- bit j mod 64 is bit j
-pub low : (w j : ℕ) {r : Bool} → j < 64 → r ≡ has w (j % 64) → r ≡ has w j
-low w j h e = e ∙ ap (has w) (mod-eq-of-lt h)
-
 -- "if p then q", as the code answers it: q where p is yes, and yes where p is no
 pub implied : (p q : Bool) {r s : Bool} → r ≡ p → r ≡ true → s ≡ q → s ≡ implies p q
 unfolding implies
@@ -145,14 +140,3 @@ module _ (w : ℕ) (ok : ℕ → Bool) where
   pub pass-fails : (k y : ℕ) → y < k → has w y ≡ true → ok y ≡ false → false ≡ every k (λ j. implies (has w j) (ok j))
   unfolding implies
   pass-fails k y h t o = sym (every-false (λ j. implies (has w j) (ok j)) k y h (rw (t, o)))
-
--- a column, one thing further
-pub column-on : (isIn : ℕ → Bool) (column next y : ℕ) {v : Bool} → v ≡ isIn y → ((j : ℕ) → has column j ≡ (ltb j y && isIn j)) → ((j : ℕ) → has next j ≡ (has column j || (v && eqb y j))) → (j : ℕ) → has next j ≡ (ltb j (y + 1) && isIn j)
-column-on isIn column next y {v} e f g j = g j ∙ rw (f j, e) (go (decLt j y) (decLt y j))
-  where
-    go : Dec (j < y) → Dec (y < j) → ((ltb j y && isIn j) || (isIn y && eqb y j)) ≡ (ltb j (y + 1) && isIn j)
-    go (yes a) b = rw (lt-ltb j y a, lt-ltb j (y + 1) (omega arith), ne-eqb y j (λ q. omega arith), and-false (isIn y) false refl) (or-false (isIn j))
-    go (no a) (yes b) = rw (le-ltb j y (omega arith), le-ltb j (y + 1) (omega arith), ne-eqb y j (λ q. omega arith)) (and-false (isIn y) false refl)
-    go (no a) (no b) =
-        let same : y ≡ j = omega arith in
-        rw (le-ltb j y (omega arith), lt-ltb j (y + 1) (omega arith), eq-eqb y j same, same) (and-yes (isIn j))

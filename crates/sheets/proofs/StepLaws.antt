@@ -17,7 +17,7 @@ use Rattle.pack.specs.declared.line.Fact.the-variants.{In, Link}
 use Rattle.pack.specs.declared.line.Step.{Step}
 use Rattle.pack.specs.World.{lineAt}
 use Rattle.pack.specs.Record.{linesOf, lineAtPlace, ValidLine, Valid}
-use Rattle.pack.specs.Marks.{counted}
+use Rattle.pack.specs.Question.{counted}
 use Rattle.pack.specs.Rules.{premiseOneOf, premiseTwoOf, conclusion, conclusionOf, usesY, usesZ, Fits, Usable}
 use Rattle.pack.proofs.RecordLaws.{lines-length, lines-at}
 use Rattle.tables.specs.Tables.{inTable, addedConcepts, addedLinks}

@@ -24,9 +24,8 @@ use Rattle.pack.specs.World.{Follows}
 use Rattle.pack.specs.Rules.{conclusionOf, Derived, given, by, free, sameFact}
 use Rattle.pack.specs.Bytes.{part}
 use Rattle.pack.specs.Record.{linesOf, Valid}
-use Rattle.pack.specs.Marks.{counted}
-use Rattle.pack.specs.Question.{checkQuestion}
-use Rattle.pack.proofs.Parts.{listed-length, listed-at}
+use Rattle.pack.specs.Question.{counted, checkQuestion}
+use Rattle.bits.proofs.ListLaws.{listed-length, listed-at}
 use Rattle.pack.proofs.RuleLaws.{same-one}
 use Rattle.pack.proofs.Soundness.{derived-follows}
 use Rattle.tables.specs.Tables.{heldIn, held, addedConcepts, addedLinks, startTables}

@@ -12,8 +12,7 @@ use Rattle.pack.specs.declared.line.Line.{Line}
 use Rattle.pack.specs.World.{World, lineAt, obeys}
 use Rattle.pack.specs.Bytes.{wordIn, part}
 use Rattle.pack.specs.Record.{linesOf}
-use Rattle.pack.specs.Marks.{counted}
-use Rattle.pack.specs.Question.{checkQuestion}
+use Rattle.pack.specs.Question.{counted, checkQuestion}
 use Rattle.sheets.specs.declared.no.NoAnswer.{NoAnswer}
 use Rattle.sheets.specs.declared.no.NoAnswer.the-variants as no
 

@@ -13,10 +13,10 @@ use Rattle.pack.specs.declared.line.Line.{Line}
 use Rattle.pack.specs.declared.line.Step.{Step}
 use Rattle.pack.specs.World.{lineAt}
 use Rattle.pack.specs.Rules.{premiseOneOf, premiseTwoOf, conclusionOf, usesY, usesZ, free, sameFact}
-use Rattle.pack.specs.Bytes.{littleEndian, part, listed}
+use Rattle.pack.specs.Bytes.{littleEndian, part}
+use Rattle.bits.specs.Lists.{listed}
 use Rattle.pack.specs.Record.{linesOf}
-use Rattle.pack.specs.Marks.{counted}
-use Rattle.pack.specs.Question.{checkQuestion}
+use Rattle.pack.specs.Question.{counted, checkQuestion}
 use Rattle.sheets.specs.declared.yes.YesAnswer.{YesAnswer}
 use Rattle.sheets.specs.declared.yes.YesAnswer.the-variants as yes
 

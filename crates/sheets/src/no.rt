@@ -5,8 +5,7 @@ ghost use Prim.Native.Nat.{_*_, _≤_, _<_, _/_};
 ghost use lib.ListN.{length};
 ghost use Rattle.pack.specs.World.{lineAt, obeys};
 ghost use Rattle.pack.specs.Record.{linesOf, recordCount};
-ghost use Rattle.pack.specs.Marks.{counted};
-ghost use Rattle.pack.specs.Question.{checkQuestion};
+ghost use Rattle.pack.specs.Question.{counted, checkQuestion};
 ghost use Rattle.sheets.specs.NoSheet.{worldOf, rowsOf, lowestBroken, checkWorld, checkRows, checkNo};
 ghost use Rattle.sheets.specs.Inner.{ThingsFit, LinesFit};
 ghost use Rattle.sheets.specs.Answers.{noNumber, noPlace, code};
@@ -14,12 +13,12 @@ use crate::number::place_code;
 use crate::row::lowest_forbidden;
 use crate::thing::world_obeys;
 use crate::thing::world_refutes;
+use marks::look::is_marked;
 use pack::check::Checked;
 use pack::check::Refusal;
 use pack::check::line_at;
 use pack::check::refusal_number;
 use pack::check::refusal_place;
-use pack::marks::is_marked;
 use pack::question::check_question;
 
 // What the no check answers.

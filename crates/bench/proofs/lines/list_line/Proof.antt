@@ -1,5 +1,5 @@
 use borrow.Author.Needs.{needs}
-use Rattle.reasons.proofs.HalveLaws.{next-up}
+use Rattle.marks.proofs.MarkLaws.{next-lowest}
 use native.Mathlib.Omega.{arith}
 use Prim.Native.Nat.{_-_}
 -- `bench::lines::list_line` meets its contract.
@@ -40,7 +40,7 @@ next-marked-requires-2 : tie.Need-next-marked-requires-2 Inv-loop μ-loop
 next-marked-requires-2 c κs = search needs
 
 loop-less : tie.Need-loop-less Inv-loop μ-loop
-loop-less c = omega (arith, next-up _ _ _ (c .next-marked2 .ensures))
+loop-less c = omega (arith, next-lowest _ _ _ (c .next-marked2 .ensures) .from)
 
 loop-again : tie.Need-loop-again Inv-loop μ-loop
 loop-again c = tt

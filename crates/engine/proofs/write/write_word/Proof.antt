@@ -1,5 +1,5 @@
 use Rattle.engine.specs.Sheet.{wordBytes}
-use Rattle.pack.specs.Bytes.{listed}
+use Rattle.bits.specs.Lists.{listed}
 use lib.ListN.{length-set, drop-of-length-le}
 use lib.Seq.{sets-eq}
 use native.Mathlib.Omega.{arith}

@@ -1,5 +1,7 @@
-use Rattle.pack.proofs.Parts.{cut, fill-on, fill-end}
-use Rattle.pack.specs.Bytes.{wordsIn, wordIn, part, listed}
+use Rattle.pack.proofs.Parts.{cut}
+use Rattle.bits.proofs.ListLaws.{fill-on, fill-end}
+use Rattle.pack.specs.Bytes.{wordsIn, wordIn, part}
+use Rattle.bits.specs.Lists.{listed}
 use lib.ListN.{length, take, length-take, length-drop, length-set}
 use native.Mathlib.Omega.{arith}
 use mathlib.Core.Path.{_≡_, refl}

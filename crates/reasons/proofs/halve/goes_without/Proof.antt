@@ -1,4 +1,4 @@
-use Rattle.reasons.proofs.AskLaws.{taken-sixteen, cut-taken, cut-follows}
+use Rattle.reasons.proofs.AskLaws.{cut-taken, cut-follows}
 use mathlib.Core.Path.{_∙_}
 -- `reasons::halve::goes_without` meets its contract.
 use borrow.Author.Needs.{needs}
@@ -6,7 +6,7 @@ use Rattle.reasons.proofs.halve.goes_without.Statement.{statement}
 use Rattle.reasons.proofs.halve.goes_without.Tie as tie
 
 cut-marks-requires : tie.Need-cut-marks-requires
-cut-marks-requires c κs = taken-sixteen _ _ _ _ _ _ (c .before .before .pre .0)
+cut-marks-requires c κs = search needs
 
 slice-aggregate-goal-follows : tie.Need-slice-aggregate-goal-follows
 slice-aggregate-goal-follows c = search needs

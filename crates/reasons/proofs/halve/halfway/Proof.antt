@@ -1,6 +1,7 @@
 use borrow.Author.Needs.{needs}
-use Rattle.reasons.proofs.HalveLaws.{next-up, next-most, next-found, next-least}
-use Rattle.pack.specs.Marks.{marked}
+use Rattle.bits.proofs.SetLaws.{lowest-least}
+use Rattle.marks.proofs.MarkLaws.{next-lowest}
+use Rattle.marks.specs.Marks.{marked}
 use native.Mathlib.Omega.{arith}
 use mathlib.Core.Path.{_≡_}
 use mathlib.Core.Bool.{true}
@@ -22,13 +23,13 @@ next-marked-requires : tie.Need-next-marked-requires Inv-loop μ-loop
 next-marked-requires c κs = search needs
 
 add-next-marked-2 : tie.Need-add-next-marked-2 Inv-loop μ-loop
-add-next-marked-2 c = omega (arith, c .before .before .pre, next-most _ _ _ (c .next-marked .ensures))
+add-next-marked-2 c = omega (arith, c .before .before .pre, next-lowest _ _ _ (c .next-marked .ensures) .within)
 
 next-marked-requires-2 : tie.Need-next-marked-requires-2 Inv-loop μ-loop
 next-marked-requires-2 c κs = search needs
 
 add-next-marked-3 : tie.Need-add-next-marked-3 Inv-loop μ-loop
-add-next-marked-3 c = omega (arith, c .before .before .before .pre, next-most _ _ _ (c .before .next-marked .ensures), next-most _ _ _ (c .next-marked2 .ensures))
+add-next-marked-3 c = omega (arith, c .before .before .before .pre, next-lowest _ _ _ (c .before .next-marked .ensures) .within, next-lowest _ _ _ (c .next-marked2 .ensures) .within)
 
 next-marked-requires-3 : tie.Need-next-marked-requires-3 Inv-loop μ-loop
 next-marked-requires-3 c κs = search needs
@@ -36,7 +37,7 @@ next-marked-requires-3 c κs = search needs
 loop-holds : tie.Need-loop-holds Inv-loop μ-loop
 loop-holds c =
     let pre = c .before .before .before .before .pre in
-    (omega (arith, next-up _ _ _ (c .before .before .next-marked .ensures)), omega (arith, c .before .before .next-marked .ensures, pre .2), omega (arith, next-up _ _ _ (c .before .next-marked2 .ensures), next-up _ _ _ (c .next-marked3 .ensures)), next-found _ _ _ (c .next-marked3 .ensures))
+    (omega (arith, next-lowest _ _ _ (c .before .before .next-marked .ensures) .from), omega (arith, c .before .before .next-marked .ensures, pre .2), omega (arith, next-lowest _ _ _ (c .before .next-marked2 .ensures) .from, next-lowest _ _ _ (c .next-marked3 .ensures) .from), λ h. next-lowest _ _ _ (c .next-marked3 .ensures) .found (omega (arith, next-lowest _ _ _ (c .next-marked3 .ensures) .from)))
 
 add-next-marked-4 : tie.Need-add-next-marked-4 Inv-loop μ-loop
 add-next-marked-4 c = omega (arith, c .before .loop .inv)
@@ -51,22 +52,22 @@ next-marked-requires-5 : tie.Need-next-marked-requires-5 Inv-loop μ-loop
 next-marked-requires-5 c κs = search needs
 
 add-next-marked-6 : tie.Need-add-next-marked-6 Inv-loop μ-loop
-add-next-marked-6 c = omega (arith, c .before .before .before .before .before .before .before .before .pre .0, next-most _ _ _ (c .next-marked5 .ensures))
+add-next-marked-6 c = omega (arith, c .before .before .before .before .before .before .before .before .pre .0, next-lowest _ _ _ (c .next-marked5 .ensures) .within)
 
 next-marked-requires-6 : tie.Need-next-marked-requires-6 Inv-loop μ-loop
 next-marked-requires-6 c κs = search needs
 
 loop-less : tie.Need-loop-less Inv-loop μ-loop
-loop-less c = omega (arith, next-up _ _ _ (c .before .before .next-marked4 .ensures), c .before .before .before .before .loop .inv)
+loop-less c = omega (arith, next-lowest _ _ _ (c .before .before .next-marked4 .ensures) .from, c .before .before .before .before .loop .inv)
 
 loop-again : tie.Need-loop-again Inv-loop μ-loop
 loop-again c =
     let l = c .before .before .before .before .loop in
-    let least = next-least _ _ _ (c .before .before .next-marked4 .ensures) (l .whole) (omega (arith, l .inv .2)) (l .inv .3 (omega (arith, c .before .before .before .before .before .before .before .before .before .pre .0))) in (
-      omega (arith, l .inv .0, next-up _ _ _ (c .before .before .next-marked4 .ensures)),
+    let least = lowest-least _ (next-lowest _ _ _ (c .before .before .next-marked4 .ensures)) (l .whole) (omega (arith, l .inv .2)) (l .inv .3 (omega (arith, c .before .before .before .before .before .before .before .before .before .pre .0))) in (
+      omega (arith, l .inv .0, next-lowest _ _ _ (c .before .before .next-marked4 .ensures) .from),
       omega (arith, least),
-      omega (arith, least, next-up _ _ _ (c .before .next-marked5 .ensures), next-up _ _ _ (c .next-marked6 .ensures)),
-      next-found _ _ _ (c .next-marked6 .ensures),
+      omega (arith, least, next-lowest _ _ _ (c .before .next-marked5 .ensures) .from, next-lowest _ _ _ (c .next-marked6 .ensures) .from),
+      λ h. next-lowest _ _ _ (c .next-marked6 .ensures) .found (omega (arith, next-lowest _ _ _ (c .next-marked6 .ensures) .from)),
     )
 
 returns : tie.Need-returns Inv-loop μ-loop

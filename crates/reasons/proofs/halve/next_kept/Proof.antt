@@ -1,11 +1,13 @@
 use borrow.Author.Needs.{needs}
 use Rattle.reasons.proofs.AskLaws.{yes-follows, no-follows}
-use Rattle.reasons.proofs.HalveLaws.{between-start, between-end, next-none}
+use Rattle.reasons.proofs.HalveLaws.{between-start, between-end}
 use Rattle.reasons.proofs.PrintedLaws.{follows-more}
+use Rattle.marks.proofs.MarkLaws.{next-lowest}
 -- `reasons::halve::next_kept` meets its contract: the range of the next kept place is halved until it has one marked place.
 use Rattle.pack.specs.Record.{linesOf}
 use Rattle.pack.specs.World.{Follows}
-use Rattle.pack.specs.Marks.{marked, counted}
+use Rattle.marks.specs.Marks.{marked}
+use Rattle.pack.specs.Question.{counted}
 use Rattle.bits.specs.Sets.{lowest}
 use Rattle.reasons.specs.Inner.{Between}
 use native.Mathlib.Omega.{arith}
@@ -72,7 +74,7 @@ returns-2 c =
     let a = c .before .before .before .before .before .before .before .before .args in
     let l = c .before .before .loop in
     between-end (length (linesOf (a .pack .now))) (λ P. Follows (linesOf (a .pack .now)) P (a .a) (a .b)) (follows-more (linesOf (a .pack .now)) (a .a) (a .b)) _ _ _ _ (l .inv .0)
-    (λ j h g. next-none _ _ _ (l .inv .1) j h (omega arith))
+    (λ j h g. next-lowest _ _ _ (l .inv .1) .none j h (omega arith))
 
 pub next-kept-spec : {M : Type 1} → statement M
 next-kept-spec =

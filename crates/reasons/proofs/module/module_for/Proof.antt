@@ -1,5 +1,5 @@
 use Rattle.reasons.proofs.ModuleLaws.{module-taken, module-refused}
-use Rattle.reasons.proofs.OutLaws.{both-taken, both-asked}
+use Rattle.reasons.proofs.OutLaws.{reason-taken}
 use mathlib.Core.Path.{sym, _∙_}
 -- `reasons::module::module_for` meets its contract: the question's refusal, or what is written.
 use borrow.Author.Needs.{needs}
@@ -19,7 +19,7 @@ put-module-requires : tie.Need-put-module-requires
 put-module-requires c κs =
     let a = c .before .before .before .before .before .before .before .args in
     let h = sym (c .before .before .before .check-reason .ensures) ∙ c .before .enum-told .given .1 in
-    ((a .a, (_, both-asked _ _ _ _ _ _ (a .out .now) h)), both-taken _ _ _ (a .marks .now) _ _ (a .out .now) h .0)
+    let taken = reason-taken _ _ _ (a .marks .now) _ _ _ h in ((a .a, (_, taken .1)), taken .0)
 
 returns : tie.Need-returns
 returns c =

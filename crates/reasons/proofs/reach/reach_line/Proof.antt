@@ -21,7 +21,7 @@ returns : tie.Need-returns
 returns c =
     let e = sym (c .before .before .before .before .before .before .left-reached .ensures) ∙ c .before .before .before .before .before .if1 .taken in
     let off = c .before .before .before .unmark .ensures in
-    (rw e (c .with-right .ensures), (off .0, λ k. off .1 k ∙ rw e))
+    (rw e (c .with-right .ensures), (off .0 ∙ c .before .before .before .before .before .before .before .before .pre .1, λ k. off .1 k ∙ rw e))
 
 returns-2 : tie.Need-returns-2
 returns-2 c =

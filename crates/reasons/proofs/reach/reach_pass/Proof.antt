@@ -1,12 +1,13 @@
 use borrow.Author.Needs.{needs}
-use Rattle.reasons.proofs.NameLaws.{next-lowest, passed-start, passed-next, passed-end}
+use Rattle.marks.proofs.MarkLaws.{next-lowest}
+use Rattle.reasons.proofs.NameLaws.{passed-start, passed-next, passed-end}
 use Rattle.reasons.specs.Names.{nameIn, withLine, Passed}
 use Rattle.reasons.specs.Reach.{leftNames, allIn}
 use Rattle.pack.proofs.RecordLaws.{lines-length, lines-at}
 use Rattle.pack.specs.declared.line.Line.{Line}
 use Rattle.pack.specs.Record.{linesOf, ValidLine}
 use Rattle.pack.specs.World.{lineAt}
-use Rattle.pack.specs.Marks.{marked}
+use Rattle.marks.specs.Marks.{marked}
 use Rattle.bits.proofs.SetLaws.{Lowest, lowest-is}
 use lib.Dec.{eqb}
 use lib.ListN.{length}
@@ -19,10 +20,10 @@ use Rattle.reasons.proofs.reach.reach_pass.Statement.{statement}
 use Rattle.reasons.proofs.reach.reach_pass.Tie as tie
 
 abbrev Inv-loop : tie.InvT-loop
-Inv-loop pack left₀ records reached₀ i₀ left reached i = (length left ≡ 16) × (i < records → marked left i ≡ true) × Passed (linesOf pack) (marked left₀) (marked left) i (nameIn reached₀) (nameIn reached)
+Inv-loop pack waiting₀ records reached₀ i₀ waiting reached i = (length waiting ≡ 16) × (i < records → marked waiting i ≡ true) × Passed (linesOf pack) (marked waiting₀) (marked waiting) i (nameIn reached₀) (nameIn reached)
 
 abbrev μ-loop : tie.MeasureT-loop
-μ-loop pack left₀ records reached₀ i₀ left reached i = 1024 - i
+μ-loop pack waiting₀ records reached₀ i₀ waiting reached i = 1024 - i
 
 next-marked-requires : tie.Need-next-marked-requires Inv-loop μ-loop
 next-marked-requires c κs = search needs
@@ -30,7 +31,7 @@ next-marked-requires c κs = search needs
 loop-holds : tie.Need-loop-holds Inv-loop μ-loop
 loop-holds c =
     let a = c .before .before .before .before .args in
-    let low : Lowest (marked (a .left .now)) 0 1024 (c .next-marked .result) = rw (c .next-marked .ensures) (lowest-is (marked (a .left .now)) 0 1024) in
+    let low : Lowest (marked (a .waiting .now)) 0 1024 (c .next-marked .result) = rw (c .next-marked .ensures) (lowest-is (marked (a .waiting .now)) 0 1024) in
     (c .before .before .before .before .pre .2, λ l. low .found (omega (arith, c .before .before .before .before .pre .1)), passed-start _ _ _ low)
 
 line-at-requires : tie.Need-line-at-requires Inv-loop μ-loop
@@ -65,8 +66,8 @@ loop-again c =
     let e = here at-line in (
       line .1 .0,
       λ g. next .found (omega (arith, c .before .before .before .before .before .before .before .before .before .before .before .before .before .pre .1)),
-      passed-next (linesOf (a .pack .now)) (marked (a .left .now)) (nameIn (a .names)) (l .i) (l .reached) _ (marked (l .left)) _ (l .inv .2) (there at-line) (l .inv .1 (c .before .before .before .before .before .before .before .loop-test .taken))
-          (λ k. line .1 .1 k ∙ ap (λ (x : Line). marked (l .left) k && not (allIn (nameIn (l .reached)) (leftNames x) && eqb (l .i) k)) (sym e))
+      passed-next (linesOf (a .pack .now)) (marked (a .waiting .now)) (nameIn (a .names)) (l .i) (l .reached) _ (marked (l .waiting)) _ (l .inv .2) (there at-line) (l .inv .1 (c .before .before .before .before .before .before .before .loop-test .taken))
+          (λ k. line .1 .1 k ∙ ap (λ (x : Line). marked (l .waiting) k && not (allIn (nameIn (l .reached)) (leftNames x) && eqb (l .i) k)) (sym e))
           (line .0 ∙ ap (withLine (l .reached)) (sym e)) next,
     )
 
@@ -77,7 +78,7 @@ returns : tie.Need-returns Inv-loop μ-loop
 returns c =
     let l = c .before .loop in
     let a = c .before .before .before .before .before .before .args in
-    (l .inv .0, passed-end (linesOf (a .pack .now)) (marked (a .left .now)) (nameIn (a .names)) (l .i) (l .inv .2) (omega (arith, lines-length (a .pack .now))))
+    (l .inv .0, passed-end (linesOf (a .pack .now)) (marked (a .waiting .now)) (nameIn (a .names)) (l .i) (l .inv .2) (omega (arith, lines-length (a .pack .now))))
 
 pub reach-pass-spec : {M : Type 1} → statement M
 reach-pass-spec =

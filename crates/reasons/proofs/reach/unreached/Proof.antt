@@ -1,9 +1,9 @@
 use borrow.Author.Needs.{needs}
 use Rattle.reasons.proofs.NameLaws.{nameCount, count-most, names-same, names-rise, Reaching, reaching-start, reaching-next, reaching-end}
-use Rattle.reasons.proofs.HalveLaws.{copy-marked}
-use Rattle.reasons.proofs.OutLaws.{marks-length}
+use Rattle.marks.proofs.CutLaws.{copy-marked}
+use Rattle.marks.proofs.WordLaws.{marks-length}
 use Rattle.pack.specs.Record.{linesOf}
-use Rattle.pack.specs.Marks.{marked}
+use Rattle.marks.specs.Marks.{marked}
 use lib.ListN.{length}
 use native.Mathlib.Omega.{arith}
 use mathlib.Core.Path.{_≡_, refl, sym, ap, _∙_}
@@ -13,16 +13,16 @@ use Rattle.reasons.proofs.reach.unreached.Statement.{statement}
 use Rattle.reasons.proofs.reach.unreached.Tie as tie
 
 abbrev Inv-loop : tie.InvT-loop
-Inv-loop pack marks a names₀ left₀ names left = (names .concepts < 2 ^ 64) × (names .roles < 2 ^ 64) × (length left ≡ 16) × Reaching (linesOf pack) (marked marks) a names (marked left)
+Inv-loop pack marks a names₀ waiting₀ names waiting = (names .concepts < 2 ^ 64) × (names .roles < 2 ^ 64) × (length waiting ≡ 16) × Reaching (linesOf pack) (marked marks) a names (marked waiting)
 
 abbrev μ-loop : tie.MeasureT-loop
-μ-loop pack marks a names₀ left₀ names left = 128 - nameCount names
+μ-loop pack marks a names₀ waiting₀ names waiting = 128 - nameCount names
 
 with-concept-requires : tie.Need-with-concept-requires Inv-loop μ-loop
 with-concept-requires c κs = c .before .before .pre .3
 
 cut-marks-requires : tie.Need-cut-marks-requires Inv-loop μ-loop
-cut-marks-requires c κs = c .before .before .before .pre .2
+cut-marks-requires c κs = search needs
 
 loop-holds : tie.Need-loop-holds Inv-loop μ-loop
 loop-holds c =

@@ -1,4 +1,4 @@
-use Rattle.reasons.proofs.OutLaws.{both-taken, both-asked}
+use Rattle.reasons.proofs.OutLaws.{reason-taken}
 use Rattle.reasons.proofs.SetLaws.{set-refused, set-asked}
 use mathlib.Core.Path.{sym, _∙_}
 -- `reasons::set::printed_set` meets its contract: the question's refusal, or what the verdict lets be written.
@@ -19,7 +19,7 @@ set-taken-requires : tie.Need-set-taken-requires
 set-taken-requires c κs =
     let a = c .before .before .before .before .before .before .before .args in
     let h = sym (c .before .before .before .check-reason .ensures) ∙ c .before .enum-told .given .1 in
-    ((_, both-asked _ _ _ _ _ _ (a .out .now) h), both-taken _ _ _ (a .marks .now) _ _ (a .out .now) h .0)
+    let taken = reason-taken _ _ _ (a .marks .now) _ _ _ h in ((_, taken .1), taken .0)
 
 returns : tie.Need-returns
 returns c =

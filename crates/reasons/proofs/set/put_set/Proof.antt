@@ -1,5 +1,5 @@
 use Rattle.reasons.specs.declared.set.SetAnswer.the-variants.{Count}
-use Rattle.pack.specs.Marks.{markCount}
+use Rattle.marks.specs.Marks.{markCount}
 use mathlib.Core.Path.{ap, _∙_}
 -- `reasons::set::put_set` meets its contract: what is counted is what was written.
 use borrow.Author.Needs.{needs}

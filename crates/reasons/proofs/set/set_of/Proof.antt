@@ -1,11 +1,11 @@
-use Rattle.reasons.proofs.AskLaws.{taken-sixteen}
 use Rattle.reasons.proofs.SetLaws.{same-words, inside-taken, inside-words, inside-follows, inside-set}
 -- `reasons::set::set_of` meets its contract: from the module, or nothing.
+use borrow.Author.Needs.{needs}
 use Rattle.reasons.proofs.set.set_of.Statement.{statement}
 use Rattle.reasons.proofs.set.set_of.Tie as tie
 
 cut-marks-requires : tie.Need-cut-marks-requires
-cut-marks-requires c κs = taken-sixteen _ _ _ _ _ _ (c .before .before .before .pre .0)
+cut-marks-requires c κs = search needs
 
 returns : tie.Need-returns
 returns c = let pre = c .before .before .before .before .pre in same-words _ _ _ _ _ _ (pre .0) (pre .1) (c .before .if1 .taken) _ (c .cut-marks .ensures)

@@ -1,6 +1,6 @@
 use Rattle.sheets.specs.NoSheet.{worldOf, lowestBroken}
 use Rattle.pack.proofs.RecordLaws.{lines-length}
-use Rattle.pack.specs.Marks.{counted}
+use Rattle.pack.specs.Question.{counted}
 use Rattle.pack.specs.Record.{linesOf}
 use Rattle.pack.specs.World.{lineAt, obeys}
 use Rattle.bits.proofs.SetLaws.{lowest-on, lowest-here, lowest-end}

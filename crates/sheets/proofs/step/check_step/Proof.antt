@@ -7,7 +7,7 @@ use borrow.Author.Needs.{needs}
 use borrow.Author.Tests.{ltb-true}
 use Rattle.bits.proofs.Truth.{and-true}
 use Rattle.pack.specs.Record.{linesOf}
-use Rattle.pack.specs.Marks.{counted}
+use Rattle.pack.specs.Question.{counted}
 use Rattle.pack.specs.Rules.{conclusion, conclusionOf}
 use Rattle.tables.specs.Tables.{held}
 use Rattle.sheets.specs.YesSheet.{stepIn, zerosIn, goodOver}

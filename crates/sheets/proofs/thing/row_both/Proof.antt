@@ -1,5 +1,6 @@
 use Rattle.pack.specs.World.{implies}
-use Rattle.sheets.proofs.RowLaws.{both-implied, low}
+use Rattle.sheets.proofs.RowLaws.{both-implied}
+use Rattle.bits.proofs.BitLaws.{low}
 use mathlib.Core.Path.{sym, _∙_}
 -- `sheets::thing::row_both` meets its contract.
 use borrow.Author.Needs.{needs}

@@ -1,4 +1,5 @@
-use Rattle.sheets.proofs.RowLaws.{implied, not-implied, low}
+use Rattle.sheets.proofs.RowLaws.{implied, not-implied}
+use Rattle.bits.proofs.BitLaws.{low}
 -- `sheets::thing::row_some_under` meets its contract.
 use borrow.Author.Needs.{needs}
 use Rattle.sheets.proofs.thing.row_some_under.Statement.{statement}

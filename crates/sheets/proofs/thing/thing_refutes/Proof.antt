@@ -1,4 +1,4 @@
-use Rattle.sheets.proofs.RowLaws.{low}
+use Rattle.bits.proofs.BitLaws.{low}
 use mathlib.Core.Bool.{not}
 use mathlib.Core.Path.{sym, ap, _∙_}
 -- `sheets::thing::thing_refutes` meets its contract.

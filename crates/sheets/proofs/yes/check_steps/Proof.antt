@@ -6,7 +6,7 @@ use native.Mathlib.Omega.{arith}
 use borrow.Author.Needs.{needs}
 use lib.ListN.{length}
 use Rattle.pack.specs.Record.{linesOf}
-use Rattle.pack.specs.Marks.{counted}
+use Rattle.pack.specs.Question.{counted}
 use Rattle.pack.proofs.Parts.{cut, cut-length}
 use Rattle.pack.proofs.RecordLaws.{lines-valid}
 use Rattle.pack.proofs.QuestionLaws.{Asked, asked}

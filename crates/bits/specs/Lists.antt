@@ -1,0 +1,8 @@
+-- Lists by a rule.
+use Prim.Native.Nat.{ℕ, zero, suc, _+_}
+use mathlib.Core.List.{List, [], _∷_}
+
+-- f i, f (i + 1), and so on: c of them
+unfoldable pub listed : {A : Type 0} → ℕ → ℕ → (ℕ → A) → List A
+listed zero i f = []
+listed (suc c) i f = f i ∷ listed c (i + 1) f

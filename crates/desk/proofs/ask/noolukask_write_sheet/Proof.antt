@@ -1,0 +1,49 @@
+-- `noolukask_write_sheet`: without 128 bytes the code of no words (`sheet-unread`); else the writer's answer, encoded.
+use borrow.Author.Needs.{needs}
+use borrow.Author.Tests.{eq-eqb}
+use Rattle.desk.specs.Desk.{sheetCode}
+use Rattle.desk.proofs.UnreadLaws.{sheet-unread}
+use Rattle.desk.proofs.ask.noolukask_write_sheet.Statement.{statement}
+use Rattle.desk.proofs.ask.noolukask_write_sheet.Tie as tie
+
+unread-code-requires : tie.Need-unread-code-requires
+unread-code-requires c κs = search needs
+
+returns : tie.Need-returns
+returns c = sheet-unread _ _ _ _ _ _ (c .unread-code .ensures) (c .before .if1 .taken) _
+
+read-marks-requires : tie.Need-read-marks-requires
+read-marks-requires c κs = search needs
+
+slice-aggregate-write-sheet : tie.Need-slice-aggregate-write-sheet
+slice-aggregate-write-sheet c = search needs
+
+write-sheet-requires : tie.Need-write-sheet-requires
+write-sheet-requires c κs = search needs
+
+sheet-code-requires : tie.Need-sheet-code-requires
+sheet-code-requires c κs = search needs
+
+same-length : tie.Need-same-length
+same-length c = search needs
+
+returns-2 : tie.Need-returns-2
+unfolding sheetCode
+returns-2 c =
+    let w = c .before .before .before .write-sheet .ensures in
+    let words = c .before .before .before .before .before .before .read-marks .ensures in
+    let e = eq-eqb _ _ (c .before .before .before .before .before .before .before .if1 .left) in
+    (rw e (rw (w .0, words) at (c .sheet-code .ensures)), rw e (rw words at (w .1)))
+
+pub noolukask-write-sheet-spec : {M : Type 1} → statement M
+noolukask-write-sheet-spec =
+    tie.close
+    (tie.spec
+    unread-code-requires
+    returns
+    read-marks-requires
+    slice-aggregate-write-sheet
+    write-sheet-requires
+    sheet-code-requires
+    same-length
+    returns-2)

@@ -1,0 +1,60 @@
+use Rattle.desk.proofs.UnreadLaws.{read-both, set-unread}
+use Rattle.desk.proofs.MarksLaws.{set-read}
+use lib.ListN.{length}
+use mathlib.Core.Path.{refl, sym, _∙_}
+-- `desk::noolukask_printed_set` meets its contract.
+use borrow.Author.Needs.{needs}
+use Rattle.desk.proofs.reason.noolukask_printed_set.Statement.{statement}
+use Rattle.desk.proofs.reason.noolukask_printed_set.Tie as tie
+
+unread-requires : tie.Need-unread-requires
+unread-requires c κs = search needs
+
+unread-code-requires : tie.Need-unread-code-requires
+unread-code-requires c κs = search needs
+
+returns : tie.Need-returns
+returns c =
+    let a = c .before .before .before .before .before .before .args in
+    set-unread _ _ _ (a .marks .now) _ _ (c .unread-code .ensures) (a .out .now) (sym (c .before .before .unread .ensures) ∙ c .before .if1 .taken)
+
+read-marks-requires : tie.Need-read-marks-requires
+read-marks-requires c κs = let a = c .before .before .before .before .before .args in read-both (length (a .marks .now)) (length (a .out .now)) (sym (c .before .unread .ensures) ∙ c .if1 .left) .0
+
+slice-aggregate-printed-set : tie.Need-slice-aggregate-printed-set
+slice-aggregate-printed-set c = search needs
+
+slice-aggregate-printed-set-2 : tie.Need-slice-aggregate-printed-set-2
+slice-aggregate-printed-set-2 c = search needs
+
+printed-set-requires : tie.Need-printed-set-requires
+printed-set-requires c κs = search needs
+
+set-code-requires : tie.Need-set-code-requires
+set-code-requires c κs = let a = c .before .before .before .before .before .before .before .before .before .before .before .before .args in (search needs, read-both (length (a .marks .now)) (length (a .out .now)) (sym (c .before .before .before .before .before .before .before .before .unread .ensures) ∙ c .before .before .before .before .before .before .before .if1 .left) .1)
+
+same-length : tie.Need-same-length
+same-length c = search needs
+
+returns-2 : tie.Need-returns-2
+returns-2 c =
+    let found = c .before .before .before .before .before .before .printed-set .ensures in
+    let words = c .before .before .before .before .before .before .before .before .before .read-marks .ensures in
+    let code = c .before .before .set-code .ensures in
+    let lengths = read-both _ _ (sym (c .before .before .before .before .before .before .before .before .before .before .before .unread .ensures) ∙ c .before .before .before .before .before .before .before .before .before .before .if1 .left) in
+    set-read _ _ _ _ _ _ _ _ (lengths .0) (lengths .1) refl (rw words at (found .0)) (rw words at (found .1)) (code .0) (code .1)
+
+pub noolukask-printed-set-spec : {M : Type 1} → statement M
+noolukask-printed-set-spec =
+    tie.close
+    (tie.spec
+    unread-requires
+    unread-code-requires
+    returns
+    read-marks-requires
+    slice-aggregate-printed-set
+    slice-aggregate-printed-set-2
+    printed-set-requires
+    set-code-requires
+    same-length
+    returns-2)

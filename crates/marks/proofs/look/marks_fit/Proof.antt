@@ -1,0 +1,22 @@
+use Rattle.marks.specs.Marks.{marksFit}
+use borrow.Author.Tests.{ne-eqb}
+use lib.Dec.{leb}
+use mathlib.Core.Path.{ap}
+-- `pack::marks::marks_fit` meets its contract.
+use borrow.Author.Needs.{needs}
+use Rattle.marks.proofs.look.marks_fit.Statement.{statement}
+use Rattle.marks.proofs.look.marks_fit.Tie as tie
+
+returns : tie.Need-returns
+unfolding marksFit
+returns c = rw (ne-eqb _ _ (c .if1 .taken))
+
+next-marked-requires : tie.Need-next-marked-requires
+next-marked-requires c κs = search needs
+
+returns-2 : tie.Need-returns-2
+unfolding marksFit
+returns-2 c = rw (c .before .if1 .left) (ap (leb 1024) (c .next-marked .ensures))
+
+pub marks-fit-spec : {M : Type 1} → statement M
+marks-fit-spec = tie.close (tie.spec returns next-marked-requires returns-2)

@@ -1,0 +1,2 @@
+-- Marks in definitions.
+pub mod Marks
