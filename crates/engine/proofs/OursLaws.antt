@@ -25,12 +25,12 @@ use Rattle.pack.specs.Question.{counted, checkQuestion}
 use Rattle.pack.specs.Record.{linesOf}
 use Rattle.pack.specs.World.{World, Is, Obeys, Follows}
 use Rattle.pack.proofs.RecordLaws.{lines-length}
-use Rattle.sheets.specs.declared.yes.YesAnswer.the-variants as yes
-use Rattle.sheets.specs.declared.no.NoAnswer.the-variants as no
-use Rattle.sheets.specs.YesSheet.{stepIn, zerosIn, stepsOf, known, goodOver, goodAt, checkYes}
-use Rattle.sheets.specs.NoSheet.{rowAt, thingsIn, noLengthFits, forbidden, worldOf, checkNo}
-use Rattle.sheets.proofs.YesLaws.{yes-accepts}
-use Rattle.sheets.proofs.NoLaws.{no-accepts}
+use Rattle.yes.specs.declared.check.YesAnswer.the-variants as yes
+use Rattle.no.specs.declared.check.NoAnswer.the-variants as no
+use Rattle.yes.specs.YesSheet.{stepIn, zerosIn, stepsOf, known, goodOver, goodAt, checkYes}
+use Rattle.no.specs.NoSheet.{rowAt, thingsIn, noLengthFits, forbidden, worldOf, checkNo}
+use Rattle.yes.proofs.YesLaws.{yes-accepts}
+use Rattle.no.proofs.NoLaws.{no-accepts}
 use Rattle.sheets.proofs.Verdicts.{never-both}
 use Rattle.passes.specs.Ours.{ourSteps, ourRows}
 use Rattle.passes.proofs.PassLaws.{decides, not-free-most}

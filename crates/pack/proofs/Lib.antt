@@ -7,3 +7,4 @@ pub mod WorldLaws
 pub mod RuleLaws
 pub mod Soundness
 pub mod Promises
+pub mod Examples

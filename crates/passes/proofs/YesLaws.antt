@@ -18,7 +18,7 @@ use Rattle.pack.specs.World.{lineAt}
 use Rattle.pack.specs.Record.{Valid}
 use Rattle.pack.specs.Rules.{premiseOneOf, premiseTwoOf, conclusionOf, usesY, usesZ, Fits, Usable, free, sameFact}
 use Rattle.pack.proofs.Soundness.{free-self}
-use Rattle.sheets.specs.YesSheet.{concluded, known, numberFits, usable, goodOver}
+use Rattle.yes.specs.YesSheet.{concluded, known, numberFits, usable, goodOver}
 use Rattle.passes.specs.Saturation.{said, holds}
 use Rattle.passes.specs.Passes.{el, notFree, finished, table, verdict}
 use Rattle.passes.specs.Ours.{ourSteps}

@@ -1,10 +1,10 @@
 -- Document 01's table: the number of each answer of the checks, and the place, step or row that comes back with it.
 use Prim.Native.Nat.{ℕ, _+_, _*_}
 use Rattle.pack.specs.Answers.{refusalNumber, refusalPlace}
-use Rattle.sheets.specs.declared.yes.YesAnswer.{YesAnswer}
-use Rattle.sheets.specs.declared.yes.YesAnswer.the-variants as yes
-use Rattle.sheets.specs.declared.no.NoAnswer.{NoAnswer}
-use Rattle.sheets.specs.declared.no.NoAnswer.the-variants as no
+use Rattle.yes.specs.declared.check.YesAnswer.{YesAnswer}
+use Rattle.yes.specs.declared.check.YesAnswer.the-variants as yes
+use Rattle.no.specs.declared.check.NoAnswer.{NoAnswer}
+use Rattle.no.specs.declared.check.NoAnswer.the-variants as no
 
 abbrev pub yesNumber : YesAnswer → ℕ
 yesNumber (yes.Refused why) = refusalNumber why

@@ -2,8 +2,8 @@
 use Prim.Native.Nat.{ℕ}
 use mathlib.Core.List.{List}
 use Rattle.pack.specs.Bytes.{marksIn}
-use Rattle.sheets.specs.YesSheet.{checkYes}
-use Rattle.sheets.specs.NoSheet.{checkNo}
+use Rattle.yes.specs.YesSheet.{checkYes}
+use Rattle.no.specs.NoSheet.{checkNo}
 use Rattle.sheets.specs.Answers.{yesNumber, yesPlace, noNumber, noPlace, code}
 
 unfoldable pub yesCode : ℕ → ℕ → List ℕ → List ℕ → ℕ → ℕ → List ℕ → ℕ

@@ -1,6 +1,3 @@
--- Document 01's sheets: what a yes sheet and a no sheet say, and what the checks answer.
-pub mod YesSheet
-pub mod NoSheet
-pub mod Inner
+-- The numbers of the checks' answers, and what their C calls return.
 pub mod Answers
 pub mod Desk

@@ -1,11 +1,11 @@
 // The two checks for C: numbers and byte slices, the marks as 128 bytes.
 ghost use mathlib.Core.Path.{_≡_};
 ghost use Rattle.sheets.specs.Desk.{yesCode, noCode};
-use crate::no::check_no;
-use crate::no::no_code;
-use crate::yes::check_yes;
-use crate::yes::yes_code;
+use crate::code::no_code;
+use crate::code::yes_code;
+use no::check::check_no;
 use pack::bytes::read_marks;
+use yes::check::check_yes;
 
 // The yes check for C.
 #[no_mangle]

@@ -1,8 +1,3 @@
-// The two sheet checks. They stand below everything else and know nothing of passes.
+// The two sheet checks for C, and that no goal has an accepted sheet of either sort.
+pub mod code;
 pub mod desk;
-pub mod no;
-pub mod number;
-pub mod row;
-pub mod step;
-pub mod thing;
-pub mod yes;

@@ -3,7 +3,7 @@ use lib.ListN.{drop}
 use mathlib.Core.List.{_++_}
 use Rattle.engine.proofs.WriteLaws.{rows-length}
 use Rattle.engine.specs.declared.write.SheetAnswer.the-variants.{NoRoom}
-use Rattle.sheets.proofs.NoLaws.{rows-few}
+use Rattle.no.proofs.NoLaws.{rows-few}
 use borrow.Author.Tests.{le-leb, lt-leb}
 use native.Mathlib.Omega.{arith}
 use native.Mathlib.Nat.{mul-comm, mul-le-mul-left}

@@ -1,0 +1,36 @@
+use Rattle.no.specs.NoSheet.{checkNo}
+use mathlib.Core.Path.{sym, _∙_}
+-- `sheets::no::check_no` meets its contract: the question's refusal, or what the sheet gives.
+use borrow.Author.Needs.{needs}
+use Rattle.no.proofs.check.check_no.Statement.{statement}
+use Rattle.no.proofs.check.check_no.Tie as tie
+
+check-question-requires : tie.Need-check-question-requires
+check-question-requires c κs = search needs
+
+enum-known-checked : tie.Need-enum-known-checked
+enum-known-checked c = search needs
+
+enum-known-checked-2 : tie.Need-enum-known-checked-2
+enum-known-checked-2 c = search needs
+
+check-no-counted-requires : tie.Need-check-no-counted-requires
+check-no-counted-requires c κs = sym (c .before .before .before .check-question .ensures) ∙ c .before .checked2 .given .1
+
+returns : tie.Need-returns
+unfolding checkNo
+returns c = rw (sym (c .before .before .before .check-question .ensures) ∙ c .before .checked .given .1)
+
+returns-2 : tie.Need-returns-2
+returns-2 c = c .check-no-counted .ensures
+
+pub check-no-spec : {M : Type 1} → statement M
+check-no-spec =
+    tie.close
+    (tie.spec
+    check-question-requires
+    enum-known-checked
+    enum-known-checked-2
+    check-no-counted-requires
+    returns
+    returns-2)

@@ -1,0 +1,55 @@
+use Rattle.no.specs.NoSheet.{forbidden, lowestForbidden}
+use Rattle.bits.proofs.SetLaws.{lowest-on, lowest-here, lowest-end}
+use Rattle.bits.specs.Sets.{lowest}
+use native.Mathlib.Omega.{arith}
+use Prim.Native.Nat.{_≤_, _-_}
+use mathlib.Core.Path.{_≡_, sym, _∙_, ap}
+-- `sheets::row::lowest_forbidden` meets its contract: what is left of the search is the whole of it.
+use Rattle.no.proofs.row.lowest_forbidden.Statement.{statement}
+use Rattle.no.proofs.row.lowest_forbidden.Tie as tie
+
+abbrev Inv-loop : tie.InvT-loop
+Inv-loop sheet n m k rows i₀ i = (i ≤ rows) × (lowest (forbidden n k sheet) i (rows - i) ≡ lowestForbidden n m k sheet)
+
+abbrev μ-loop : tie.MeasureT-loop
+μ-loop sheet n m k rows i₀ i = rows - i
+
+loop-holds : tie.Need-loop-holds Inv-loop μ-loop
+unfolding lowestForbidden
+loop-holds c = (omega arith, ap (lowest _ 0) (omega (arith, c .before .pre .0)))
+
+row-forbidden-requires : tie.Need-row-forbidden-requires Inv-loop μ-loop
+row-forbidden-requires c κs = omega arith
+
+returns : tie.Need-returns Inv-loop μ-loop
+returns c =
+    let l = c .before .before .before .loop in
+    sym (lowest-here _ (l .i) _ (c .before .before .loop-test .taken) (sym (c .before .row-forbidden .ensures) ∙ c .if1 .taken)) ∙ l .inv .1
+
+add-i : tie.Need-add-i Inv-loop μ-loop
+add-i c = omega arith
+
+loop-less : tie.Need-loop-less Inv-loop μ-loop
+loop-less c = omega arith
+
+loop-again : tie.Need-loop-again Inv-loop μ-loop
+loop-again c =
+    let l = c .before .before .before .loop in
+    (omega arith, sym (lowest-on _ (l .i) _ (c .before .before .loop-test .taken) (sym (c .before .row-forbidden .ensures) ∙ c .if1 .left)) ∙ l .inv .1)
+
+returns-2 : tie.Need-returns-2 Inv-loop μ-loop
+returns-2 c = sym (lowest-end _ _ _ (c .loop-test .left)) ∙ c .before .loop .inv .1
+
+pub lowest-forbidden-spec : {M : Type 1} → statement M
+lowest-forbidden-spec =
+    tie.close
+    (tie.spec
+    Inv-loop
+    μ-loop
+    loop-holds
+    row-forbidden-requires
+    returns
+    add-i
+    loop-less
+    loop-again
+    returns-2)

@@ -1,0 +1,17 @@
+use Rattle.no.proofs.RowLaws.{past}
+use lib.Dec.{ltb}
+use Prim.Native.Nat.{ℕ}
+use mathlib.Core.Path.{ap, _∙_}
+-- `sheets::row::past_limit` meets its contract.
+use borrow.Author.Needs.{needs}
+use Rattle.no.proofs.row.past_limit.Statement.{statement}
+use Rattle.no.proofs.row.past_limit.Tie as tie
+
+next-bit-requires : tie.Need-next-bit-requires
+next-bit-requires c κs = search needs
+
+returns : tie.Need-returns
+returns c = ap (λ (j : ℕ). ltb j 64) (c .next-bit .ensures) ∙ past _ _
+
+pub past-limit-spec : {M : Type 1} → statement M
+past-limit-spec = tie.close (tie.spec next-bit-requires returns)

@@ -1,0 +1,37 @@
+use Rattle.no.specs.NoSheet.{forbidden}
+use borrow.Author.Tests.{lt-ltb, le-ltb}
+-- `sheets::row::row_forbidden` meets its contract: the limit is n in the first k rows, and k in the others.
+use borrow.Author.Needs.{needs}
+use Rattle.no.proofs.row.row_forbidden.Statement.{statement}
+use Rattle.no.proofs.row.row_forbidden.Tie as tie
+
+row-at-requires : tie.Need-row-at-requires
+row-at-requires c κs = search needs
+
+past-limit-requires : tie.Need-past-limit-requires
+past-limit-requires c κs = search needs
+
+returns : tie.Need-returns
+unfolding forbidden
+returns c = rw (lt-ltb _ _ (c .before .before .if1 .taken)) (rw (c .before .row-at .ensures) at (c .past-limit .ensures))
+
+row-at-requires-2 : tie.Need-row-at-requires-2
+row-at-requires-2 c κs = search needs
+
+past-limit-requires-2 : tie.Need-past-limit-requires-2
+past-limit-requires-2 c κs = search needs
+
+returns-2 : tie.Need-returns-2
+unfolding forbidden
+returns-2 c = rw (le-ltb _ _ (c .before .before .if1 .left)) (rw (c .before .row-at2 .ensures) at (c .past-limit2 .ensures))
+
+pub row-forbidden-spec : {M : Type 1} → statement M
+row-forbidden-spec =
+    tie.close
+    (tie.spec
+    row-at-requires
+    past-limit-requires
+    returns
+    row-at-requires-2
+    past-limit-requires-2
+    returns-2)

@@ -1,0 +1,154 @@
+use Rattle.no.proofs.WorldRows.{meets-things, inside-things, chain-things}
+use Rattle.no.specs.NoSheet.{rowAt}
+use Rattle.pack.specs.World.{implies, obeysAt}
+use Rattle.bits.specs.Bit.{has}
+use mathlib.Core.Bool.{Bool}
+use mathlib.Core.Path.{ap, _∙_}
+-- `sheets::thing::thing_obeys` meets its contract, variant by variant.
+use borrow.Author.Needs.{needs}
+use Rattle.no.proofs.thing.thing_obeys.Statement.{statement}
+use Rattle.no.proofs.thing.thing_obeys.Tie as tie
+
+enum-known-l : tie.Need-enum-known-l
+enum-known-l c = search needs
+
+row-at-requires : tie.Need-row-at-requires
+row-at-requires c κs = search needs
+
+row-under-requires : tie.Need-row-under-requires
+row-under-requires c κs = rw (c .before .before .l .given .1) at (c .before .before .before .before .before .pre .1)
+
+enum-known-l-2 : tie.Need-enum-known-l-2
+enum-known-l-2 c = search needs
+
+row-at-requires-2 : tie.Need-row-at-requires-2
+row-at-requires-2 c κs = search needs
+
+row-both-requires : tie.Need-row-both-requires
+row-both-requires c κs = rw (c .before .before .l2 .given .1) at (c .before .before .before .before .before .pre .1)
+
+enum-known-l-3 : tie.Need-enum-known-l-3
+enum-known-l-3 c = search needs
+
+row-at-requires-3 : tie.Need-row-at-requires-3
+row-at-requires-3 c κs = search needs
+
+link-row-requires : tie.Need-link-row-requires
+link-row-requires c κs = (c .before .before .before .before .before .pre .0, (rw (c .before .before .l3 .given .1) at (c .before .before .before .before .before .pre .1)) .1, c .before .before .before .before .before .pre .3)
+
+row-under-some-requires : tie.Need-row-under-some-requires
+row-under-some-requires c κs = (rw (c .before .before .before .l3 .given .1) at (c .before .before .before .before .before .before .pre .1)) .0
+
+enum-known-l-4 : tie.Need-enum-known-l-4
+enum-known-l-4 c = search needs
+
+link-row-requires-2 : tie.Need-link-row-requires-2
+link-row-requires-2 c κs = (c .before .before .before .before .pre .0, (rw (c .before .l4 .given .1) at (c .before .before .before .before .pre .1)) .0, c .before .before .before .before .pre .3)
+
+row-at-requires-4 : tie.Need-row-at-requires-4
+row-at-requires-4 c κs = search needs
+
+row-some-under-requires : tie.Need-row-some-under-requires
+row-some-under-requires c κs = (rw (c .before .before .before .l4 .given .1) at (c .before .before .before .before .before .before .pre .1)) .2
+
+enum-known-l-5 : tie.Need-enum-known-l-5
+enum-known-l-5 c = search needs
+
+link-row-requires-3 : tie.Need-link-row-requires-3
+link-row-requires-3 c κs = (c .before .before .before .before .pre .0, (rw (c .before .l5 .given .1) at (c .before .before .before .before .pre .1)) .0, c .before .before .before .before .pre .3)
+
+link-row-requires-4 : tie.Need-link-row-requires-4
+link-row-requires-4 c κs = (c .before .before .before .before .before .pre .0, (rw (c .before .before .l5 .given .1) at (c .before .before .before .before .before .pre .1)) .1, c .before .before .before .before .before .pre .3)
+
+row-inside-requires : tie.Need-row-inside-requires
+row-inside-requires c κs = search needs
+
+enum-known-l-6 : tie.Need-enum-known-l-6
+enum-known-l-6 c = search needs
+
+chain-at-requires : tie.Need-chain-at-requires
+chain-at-requires c κs =
+    let fits = rw (c .before .l6 .given .1) at (c .before .before .before .before .pre .1) in
+    (c .before .before .before .before .pre .0, fits .0, fits .1, fits .2, c .before .before .before .before .pre .3)
+
+enum-told : tie.Need-enum-told
+enum-told c = search needs
+
+returns : tie.Need-returns
+unfolding obeysAt
+returns c = rw (c .before .before .before .l .given .1) (rw (c .before .row-at .ensures) at (c .row-under .ensures))
+
+returns-2 : tie.Need-returns-2
+unfolding obeysAt
+returns-2 c = rw (c .before .before .before .l2 .given .1) (rw (c .before .row-at2 .ensures) at (c .row-both .ensures))
+
+returns-3 : tie.Need-returns-3
+unfolding obeysAt
+returns-3 c =
+    let pre = c .before .before .before .before .before .before .before .pre in
+    let col = rw (c .before .before .before .before .l3 .given .1) at (pre .2) in
+    rw (c .before .before .before .before .l3 .given .1)
+    ((rw (c .before .before .row-at3 .ensures, c .before .link-row .ensures) at (c .row-under-some .ensures)) ∙ ap (implies _) (meets-things _ _ _ _ _ (pre .0 .few) col))
+
+returns-4 : tie.Need-returns-4
+unfolding obeysAt
+returns-4 c =
+    let a = c .before .before .before .before .before .before .before .args in
+    let pre = c .before .before .before .before .before .before .before .pre in
+    let line = c .before .before .before .before .l4 .given in
+    let col = rw (line .1) at (pre .2) in
+    rw (line .1)
+    ((rw (c .before .row-at4 .ensures, c .before .before .link-row2 .ensures) at (c .row-some-under .ensures))
+    ∙ ap (λ (t : Bool). implies t (has (rowAt (a .sheet .now) (a .x)) (line .0 .1 .1 .0))) (meets-things _ _ _ _ _ (pre .0 .few) col))
+
+returns-5 : tie.Need-returns-5
+unfolding obeysAt
+returns-5 c =
+    let pre = c .before .before .before .before .before .before .before .pre in
+    let fits = rw (c .before .before .before .before .l5 .given .1) at (pre .1) in
+    rw (c .before .before .before .before .l5 .given .1)
+    ((rw (c .before .link-row4 .ensures, c .before .before .link-row3 .ensures) at (c .row-inside .ensures)) ∙ inside-things _ _ _ _ _ (pre .0 .few) (fits .0) (pre .3))
+
+returns-6 : tie.Need-returns-6
+unfolding obeysAt
+returns-6 c =
+    let pre = c .before .before .before .before .before .pre in
+    let fits = rw (c .before .before .l6 .given .1) at (pre .1) in
+    rw (c .before .before .l6 .given .1) (c .chain-at .ensures ∙ chain-things _ _ _ _ _ (pre .0 .few) (fits .1))
+
+returns-7 : tie.Need-returns-7
+unfolding obeysAt
+returns-7 c = rw (c .enum-told .given .1)
+
+pub thing-obeys-spec : {M : Type 1} → statement M
+thing-obeys-spec =
+    tie.close
+    (tie.spec
+    enum-known-l
+    row-at-requires
+    row-under-requires
+    enum-known-l-2
+    row-at-requires-2
+    row-both-requires
+    enum-known-l-3
+    row-at-requires-3
+    link-row-requires
+    row-under-some-requires
+    enum-known-l-4
+    link-row-requires-2
+    row-at-requires-4
+    row-some-under-requires
+    enum-known-l-5
+    link-row-requires-3
+    link-row-requires-4
+    row-inside-requires
+    enum-known-l-6
+    chain-at-requires
+    enum-told
+    returns
+    returns-2
+    returns-3
+    returns-4
+    returns-5
+    returns-6
+    returns-7)

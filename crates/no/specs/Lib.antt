@@ -1,0 +1,3 @@
+-- Document 01's no sheet: what it says, and what the check answers.
+pub mod NoSheet
+pub mod Inner

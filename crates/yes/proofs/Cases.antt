@@ -1,0 +1,36 @@
+-- C11 of document 01, by computation over the bytes.
+use mathlib.Core.Path.{_≡_, refl}
+use mathlib.Core.List.{List, [], _∷_, _++_}
+use Prim.Native.Nat.{ℕ}
+use lib.ListN.{replicate}
+use Rattle.bits.specs.Bit.{has}
+use Rattle.bits.specs.Sets.{lowest}
+use Rattle.bits.specs.Lists.{listed}
+use Rattle.marks.specs.Marks.{marked, marksFit}
+use Rattle.pack.specs.World.{lineAt}
+use Rattle.pack.specs.Bytes.{littleEndian}
+use Rattle.pack.specs.Record.{lineIn, keepsIn, linesOf}
+use Rattle.pack.specs.Pack.{checkRecords, checkPack}
+use Rattle.pack.specs.Question.{checkQuestion}
+use Rattle.pack.specs.Rules.{free, sameFact}
+use Rattle.pack.proofs.Examples.{recordBytes, valve}
+use Rattle.yes.specs.declared.check.YesAnswer.the-variants as yes
+use Rattle.yes.specs.YesSheet.{stepsOf, concluded, known, usable, goodOver, goodAt, lowestBad, checkSteps, checkYes}
+
+-- a step at a place below 256
+unfoldable pub stepBytes : ℕ → ℕ → ℕ → ℕ → List ℕ
+stepBytes place x y z = place ∷ 0 ∷ x ∷ y ∷ z ∷ 0 ∷ 0 ∷ 0 ∷ []
+
+-- all records of the valve pack marked, and C3's sheet from its second step on
+unfoldable pub allSix : List ℕ
+allSix = 63 ∷ replicate 15 0
+
+unfoldable pub later : List ℕ
+later = stepBytes 1 2 0 0 ++ stepBytes 2 0 2 3 ++ stepBytes 3 0 3 0
+
+-- C11: WITHOUT ITS FIRST STEP, STEP AT 1; and whole, accepted
+pub c11 : (checkYes 5 2 valve allSix 0 1 later ≡ yes.Step 1) × (checkYes 5 2 valve allSix 0 1 (stepBytes 0 0 0 0 ++ later) ≡ yes.Accepted)
+unfolding
+    recordBytes stepBytes valve allSix later has lowest lineAt littleEndian listed lineIn keepsIn linesOf marked marksFit checkRecords checkPack checkQuestion
+    free sameFact stepsOf concluded known usable goodOver goodAt lowestBad checkSteps checkYes
+c11 = (refl, refl)

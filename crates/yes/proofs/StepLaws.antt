@@ -1,0 +1,117 @@
+-- Laws of one step: what the tests of the code show of it, that it depends only on what is known, that a good one is usable, and
+-- that its conclusion has a place in the tables.
+use mathlib.Core.Path.{_≡_, refl, sym, ap, ap₂, _∙_}
+use mathlib.Core.Bool.{Bool, true, false, cond, _&&_}
+use mathlib.Core.List.{List}
+use Prim.Native.Nat.{ℕ, _/_, _≤_, _<_}
+use native.Mathlib.Omega.{arith}
+use lib.Dec.{ltb}
+use lib.ListN.{length}
+use borrow.Author.Tests.{ltb-true, eqb-true, lt-ltb}
+use Rattle.bits.proofs.Truth.{and-true, true-and}
+use Rattle.bits.proofs.Promises.{no-second}
+use Rattle.pack.specs.declared.line.Line.{Line}
+use Rattle.pack.specs.declared.line.Line.the-variants.{Under, BothUnder, UnderSome, SomeUnder, RoleUnder, ChainUnder, NoLine}
+use Rattle.pack.specs.declared.line.Fact.{Fact}
+use Rattle.pack.specs.declared.line.Fact.the-variants.{In, Link}
+use Rattle.pack.specs.declared.line.Step.{Step}
+use Rattle.pack.specs.World.{lineAt}
+use Rattle.pack.specs.Record.{linesOf, lineAtPlace, ValidLine, Valid}
+use Rattle.pack.specs.Question.{counted}
+use Rattle.pack.specs.Rules.{premiseOneOf, premiseTwoOf, conclusion, conclusionOf, usesY, usesZ, Fits, Usable}
+use Rattle.pack.proofs.RecordLaws.{lines-length, lines-at}
+use Rattle.tables.specs.Tables.{inTable, addedConcepts, addedLinks}
+use Rattle.yes.specs.YesSheet.{stepIn, numberFits, usable, goodOver}
+use Rattle.yes.specs.Inner.{numbersFit, premisesKnown}
+
+-- THE TESTS OF THE CODE: the place counts, and the numbers and the premises are right for the line l there
+module _ (pack p : List ℕ) {s : Step} {l : Line} (e : s ≡ stepIn p) (f : l ≡ lineAtPlace pack (s .place)) where
+  pub good-parts : (ws : List ℕ) (n : ℕ) (K : Fact → Bool)
+      → goodOver (linesOf pack) (counted pack ws) n K (stepIn p) ≡ ((ltb (s .place) (length pack / 8) && counted pack ws (s .place)) && (numbersFit l n s && premisesKnown l K s))
+  unfolding goodOver usable
+  good-parts ws n K =
+      ap (goodOver (linesOf pack) (counted pack ws) n K) (sym e)
+      ∙ rw lines-length (there (ltb (s .place) (length pack / 8)) refl (counted pack ws (s .place)))
+    where
+      k : Line
+      k = lineAt (linesOf pack) (s .place)
+
+      there : (t : Bool) → ltb (s .place) (length pack / 8) ≡ t → (u : Bool) → (((t && u) && numbersFit k n s) && premisesKnown k K s) ≡ ((t && u) && (numbersFit l n s && premisesKnown l K s))
+      there true h true = ap (λ (x : Line). numbersFit x n s && premisesKnown x K s) (lines-at pack (s .place) (ltb-true _ _ h) ∙ sym f)
+      there true h false = refl
+      there false h u = refl
+
+  pub concludes : s .place < length pack / 8 → conclusion l (s .x) (s .y) (s .z) ≡ conclusionOf (linesOf pack) (stepIn p)
+  concludes h = ap (λ (k : Line). conclusion k (s .x) (s .y) (s .z)) (f ∙ sym (lines-at pack (s .place) h)) ∙ ap (conclusionOf (linesOf pack)) e
+
+module _ (ls : List Line) (S : ℕ → Bool) (n : ℕ) where
+  -- whether a step is good depends only on which facts are known
+  pub good-same : (K K′ : Fact → Bool) (s : Step) → ((f : Fact) → K f ≡ K′ f) → goodOver ls S n K s ≡ goodOver ls S n K′ s
+  unfolding goodOver
+  good-same K K′ s h = ap₂ (λ (u v : Bool). usable ls S n s && (u && v)) (h (premiseOneOf ls s)) (h (premiseTwoOf ls s))
+
+  -- A STEP THAT IS GOOD is usable, and its premises are known
+  pub record Good (K : Fact → Bool) (s : Step) : Type 0 where
+    pub may : Usable ls S n s
+    pub one : K (premiseOneOf ls s) ≡ true
+    pub two : K (premiseTwoOf ls s) ≡ true
+
+  fits : (t : Bool) (y : ℕ) → numberFits t n y ≡ true → Fits t n y
+  fits true y h = ltb-true y n h
+  fits false y h = eqb-true y 0 h
+
+  pub good : {K : Fact → Bool} {s : Step} → goodOver ls S n K s ≡ true → Good K s
+  unfolding goodOver usable
+  good {K} {s} h =
+      let l = lineAt ls (s .place) in
+      let g = and-true (usable ls S n s) (premisesKnown l K s) h in
+      let u = and-true (ltb (s .place) (length ls) && S (s .place)) (numbersFit l n s) (g .0) in
+      let p = and-true (ltb (s .place) (length ls)) (S (s .place)) (u .0) in
+      let x = and-true (ltb (s .x) n) (numberFits (usesY l) n (s .y) && numberFits (usesZ l) n (s .z)) (u .1) in
+      let y = and-true (numberFits (usesY l) n (s .y)) (numberFits (usesZ l) n (s .z)) (x .1) in
+      let k = and-true (K (premiseOneOf ls s)) (K (premiseTwoOf ls s)) (g .1) in
+      record {
+        may = record {
+          there = ltb-true _ _ (p .0);
+          marked = p .1;
+          fitsX = ltb-true _ _ (x .0);
+          fitsY = fits (usesY l) (s .y) (y .0);
+          fitsZ = fits (usesZ l) (s .z) (y .1);
+        };
+        one = k .0;
+        two = k .1;
+      }
+
+-- THE CONCLUSION OF A LINE whose numbers fit has a place in the tables
+module _ (n m : ℕ) (few : n ≤ 64) (roles : m ≤ 8) where
+  concept : {x b : ℕ} → x < n → b < n → inTable (In x b) ≡ true
+  concept {x} {b} h g = true-and (ltb x 64) (ltb b 64) (lt-ltb x 64 (omega arith)) (lt-ltb b 64 (omega arith))
+
+  link : {x r y : ℕ} → x < n → r < m → y < n → inTable (Link x r y) ≡ true
+  link {x} {r} {y} h k g =
+      true-and (ltb x 64 && ltb r 8) (ltb y 64)
+      (true-and (ltb x 64) (ltb r 8) (lt-ltb x 64 (omega arith)) (lt-ltb r 8 (omega arith)))
+      (lt-ltb y 64 (omega arith))
+
+  in-table : (l : Line) (x y z : ℕ) → ValidLine n m l → x < n → Fits (usesY l) n y → Fits (usesZ l) n z → inTable (conclusion l x y z) ≡ true
+  in-table (Under a b) x y z v h f g = concept h (v .1)
+  in-table (BothUnder a₁ a₂ b) x y z v h f g = concept h (v .2)
+  in-table (UnderSome a r b) x y z v h f g = link h (v .1) (v .2)
+  in-table (SomeUnder r a b) x y z v h f g = concept h (v .2)
+  in-table (RoleUnder r s) x y z v h f g = link h (v .1) f
+  in-table (ChainUnder r s t) x y z v h f g = link h (v .2) g
+  in-table NoLine x y z v h f g = absurd v
+
+  pub conclusion-in-table : (ls : List Line) (S : ℕ → Bool) (s : Step) → Valid n m ls → Usable ls S n s → inTable (conclusionOf ls s) ≡ true
+  conclusion-in-table ls S s v u = in-table (lineAt ls (s .place)) (s .x) (s .y) (s .z) (v (s .place) (u .there)) (u .fitsX) (u .fitsY) (u .fitsZ)
+
+-- NO SECOND RESULT, and no second later content of the rows, satisfies the promise of the check of a step; right and f are what
+-- the definitions give for the step and its conclusion
+pub check-step-fixed : (right : Bool) (f : Fact) (cs ls : List ℕ) (r r′ : Bool) (cs₁ ls₁ cs₂ ls₂ : List ℕ)
+    → (r ≡ right) × (cs₁ ≡ cond r (addedConcepts f cs) cs) × (ls₁ ≡ cond r (addedLinks f ls) ls)
+    → (r′ ≡ right) × (cs₂ ≡ cond r′ (addedConcepts f cs) cs) × (ls₂ ≡ cond r′ (addedLinks f ls) ls)
+    → (r ≡ r′) × (cs₁ ≡ cs₂) × (ls₁ ≡ ls₂)
+check-step-fixed right f cs ls r r′ cs₁ ls₁ cs₂ ls₂ p q =
+    let e = no-second (p .0) (q .0) in
+    let p′ = rw e at p in
+    (e, no-second (p′ .1) (q .1), no-second (p′ .2) (q .2))

@@ -1,0 +1,119 @@
+-- `sheets::yes::check_steps` meets its contract: before step i the tables hold what is known, and what is left of the search is
+-- the whole of it.
+use Prim.Native.Nat.{_-_, _/_, _≤_}
+use mathlib.Core.Path.{_≡_, refl}
+use native.Mathlib.Omega.{arith}
+use borrow.Author.Needs.{needs}
+use lib.ListN.{length}
+use Rattle.pack.specs.Record.{linesOf}
+use Rattle.pack.specs.Question.{counted}
+use Rattle.pack.proofs.Parts.{cut, cut-length}
+use Rattle.pack.proofs.RecordLaws.{lines-valid}
+use Rattle.pack.proofs.QuestionLaws.{Asked, asked}
+use Rattle.yes.proofs.YesLaws.{Passed, passed-none, passed-more, step-bad, goal-shown, goal-not-shown}
+use Rattle.yes.proofs.check.check_steps.Statement.{statement}
+use Rattle.yes.proofs.check.check_steps.Tie as tie
+
+abbrev Inv-loop : tie.InvT-loop
+Inv-loop n m pack marks a b sheet count concepts₀ links₀ steps i₀ concepts links i =
+    (steps ≡ length sheet / 8) × (i ≤ steps) × Passed (linesOf pack) (counted pack marks) n sheet concepts links i
+
+abbrev μ-loop : tie.MeasureT-loop
+μ-loop n m pack marks a b sheet count concepts₀ links₀ steps i₀ concepts links i = steps - i
+
+-- the question is taken, so that its sizes, its lines and its goal are right
+question : (c : tie.Start Inv-loop μ-loop) → let a = c .args in Asked (a .n) (a .m) (a .pack .now) (a .marks .now) (a .a) (a .b) (a .count)
+question c = asked _ _ _ _ _ _ (c .pre .0)
+
+start-tables-requires : tie.Need-start-tables-requires Inv-loop μ-loop
+start-tables-requires c κs = search needs
+
+loop-holds : tie.Need-loop-holds Inv-loop μ-loop
+loop-holds c =
+    let q = question (c .before .before .before .before .before .before) in
+    (refl, omega arith, rw (c .before .before .start-tables .ensures) (passed-none _ _ _ _ (q .pack .n-most)))
+
+mul-at : tie.Need-mul-at Inv-loop μ-loop
+mul-at c = omega arith
+
+add-end : tie.Need-add-end Inv-loop μ-loop
+add-end c = omega arith
+
+sub-check-step : tie.Need-sub-check-step Inv-loop μ-loop
+sub-check-step c = omega arith
+
+part-check-step-start : tie.Need-part-check-step-start Inv-loop μ-loop
+part-check-step-start c = omega arith
+
+part-check-step-end : tie.Need-part-check-step-end Inv-loop μ-loop
+part-check-step-end c = omega arith
+
+check-step-requires : tie.Need-check-step-requires Inv-loop μ-loop
+check-step-requires c κs =
+    let at = c .before .before .before .before in
+    cut-length (at .before .before .before .before .before .before .before .args .sheet .now) (at .loop .i) (omega arith)
+
+add-i : tie.Need-add-i Inv-loop μ-loop
+add-i c = omega arith
+
+loop-less : tie.Need-loop-less Inv-loop μ-loop
+loop-less c = omega arith
+
+loop-again : tie.Need-loop-again Inv-loop μ-loop
+loop-again c =
+    let loop = c .before .before .before .before .before .before .loop in
+    let step = rw cut at (c .before .check-step .ensures) in
+    let q = question (c .before .before .before .before .before .before .before .before .before .before .before .before .before) .pack in (
+      loop .inv .0,
+      omega arith,
+      passed-more _ _ _ _ (loop .inv .2) (omega arith) (step .0) (q .n-most) (q .m-most) (lines-valid _ _ _ (q .all)) (c .if1 .taken) (step .1 .0) (step .1 .1),
+    )
+
+cast-t25 : tie.Need-cast-t25 Inv-loop μ-loop
+cast-t25 c = omega arith
+
+returns : tie.Need-returns Inv-loop μ-loop
+returns c =
+    let loop = c .before .before .before .before .before .before .loop in
+    let step = rw cut at (c .before .check-step .ensures) in
+    step-bad _ _ _ _ (loop .inv .2) (omega arith) (step .0) _ _ (c .if1 .left)
+
+cast-in-held : tie.Need-cast-in-held Inv-loop μ-loop
+cast-in-held c = let q = question (c .before .before .before .before .before .before .before .before .before) in omega arith
+
+cast-in-held-2 : tie.Need-cast-in-held-2 Inv-loop μ-loop
+cast-in-held-2 c = let q = question (c .before .before .before .before .before .before .before .before .before) in omega arith
+
+in-held-requires : tie.Need-in-held-requires Inv-loop μ-loop
+in-held-requires c κs = search needs
+
+returns-2 : tie.Need-returns-2 Inv-loop μ-loop
+returns-2 c = goal-shown _ _ _ _ (c .before .before .before .before .loop .inv .2) (omega arith) _ _ (c .before .in-held .ensures) (c .if2 .taken)
+
+returns-3 : tie.Need-returns-3 Inv-loop μ-loop
+returns-3 c = goal-not-shown _ _ _ _ (c .before .before .before .before .loop .inv .2) (omega arith) _ _ (c .before .in-held .ensures) (c .if2 .left)
+
+pub check-steps-spec : {M : Type 1} → statement M
+check-steps-spec =
+    tie.close
+    (tie.spec
+    Inv-loop
+    μ-loop
+    start-tables-requires
+    loop-holds
+    mul-at
+    add-end
+    sub-check-step
+    part-check-step-start
+    part-check-step-end
+    check-step-requires
+    add-i
+    loop-less
+    loop-again
+    cast-t25
+    returns
+    cast-in-held
+    cast-in-held-2
+    in-held-requires
+    returns-2
+    returns-3)

@@ -1,0 +1,36 @@
+-- `sheets::yes::check_yes` meets its contract: the question's refusal, or what the sheet gives.
+use mathlib.Core.Path.{sym, _∙_}
+use Rattle.yes.specs.YesSheet.{checkYes}
+use borrow.Author.Needs.{needs}
+use Rattle.yes.proofs.check.check_yes.Statement.{statement}
+use Rattle.yes.proofs.check.check_yes.Tie as tie
+
+check-question-requires : tie.Need-check-question-requires
+check-question-requires c κs = search needs
+
+enum-known-checked : tie.Need-enum-known-checked
+enum-known-checked c = search needs
+
+enum-known-checked-2 : tie.Need-enum-known-checked-2
+enum-known-checked-2 c = search needs
+
+check-yes-counted-requires : tie.Need-check-yes-counted-requires
+check-yes-counted-requires c κs = sym (c .before .before .before .check-question .ensures) ∙ c .before .checked2 .given .1
+
+returns : tie.Need-returns
+unfolding checkYes
+returns c = rw (sym (c .before .before .before .check-question .ensures) ∙ c .before .checked .given .1)
+
+returns-2 : tie.Need-returns-2
+returns-2 c = search needs
+
+pub check-yes-spec : {M : Type 1} → statement M
+check-yes-spec =
+    tie.close
+    (tie.spec
+    check-question-requires
+    enum-known-checked
+    enum-known-checked-2
+    check-yes-counted-requires
+    returns
+    returns-2)

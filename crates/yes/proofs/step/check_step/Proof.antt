@@ -1,0 +1,113 @@
+-- `sheets::step::check_step` meets its contract, test by test: what the tests show is the definition, part by part.
+use mathlib.Core.Path.{_≡_, refl, sym, _∙_}
+use mathlib.Core.Bool.{true, _&&_}
+use Prim.Native.Nat.{_/_, _<_}
+use lib.ListN.{length}
+use borrow.Author.Needs.{needs}
+use borrow.Author.Tests.{ltb-true}
+use Rattle.bits.proofs.Truth.{and-true}
+use Rattle.pack.specs.Record.{linesOf}
+use Rattle.pack.specs.Question.{counted}
+use Rattle.pack.specs.Rules.{conclusion, conclusionOf}
+use Rattle.tables.specs.Tables.{held}
+use Rattle.yes.specs.YesSheet.{stepIn, zerosIn, goodOver}
+use Rattle.yes.specs.Inner.{numbersFit, premisesKnown}
+use Rattle.yes.proofs.StepLaws.{good-parts, concludes}
+use Rattle.yes.proofs.step.check_step.Statement.{statement}
+use Rattle.yes.proofs.step.check_step.Tie as tie
+
+-- the last three bytes are zero, and the place is below the record count
+zeros-good : (c : tie.Then1) → zerosIn (c .before .before .before .before .before .before .args .part .now) ≡ true
+zeros-good c = sym (c .before .zeros-zero .ensures) ∙ c .if1 .taken
+
+below : (c : tie.Then2) → let a = c .before .before .before .before in a .read-step .result .place < length (a .before .before .before .before .args .pack .now) / 8
+below c = ltb-true _ _ (and-true _ _ (sym (c .before .place-counts .ensures) ∙ c .if2 .taken) .0)
+
+-- with the line read, what is left to judge
+judged : (c : tie.After-line-at)
+    → let r = c .before .before .before .before .before in
+    let a = r .before .before .before .before .args in
+    let K = held (a .concepts .now) (a .links .now) in
+    (zerosIn (a .part .now) && goodOver (linesOf (a .pack .now)) (counted (a .pack .now) (a .marks .now)) (a .n) K (stepIn (a .part .now)))
+    ≡ (numbersFit (c .line-at .result) (a .n) (r .read-step .result) && premisesKnown (c .line-at .result) K (r .read-step .result))
+judged c =
+    let place = c .before .before in
+    rw (good-parts _ _ (place .before .before .before .read-step .ensures) (c .line-at .ensures), zeros-good (place .before), sym (place .place-counts .ensures) ∙ c .before .if2 .taken)
+
+concluded : (c : tie.After-line-at)
+    → let r = c .before .before .before .before .before in
+    let a = r .before .before .before .before .args in
+    let s = r .read-step .result in
+    conclusion (c .line-at .result) (s .x) (s .y) (s .z) ≡ conclusionOf (linesOf (a .pack .now)) (stepIn (a .part .now))
+concluded c = concludes _ _ (c .before .before .before .before .before .read-step .ensures) (c .line-at .ensures) (below (c .before))
+
+read-step-requires : tie.Need-read-step-requires
+read-step-requires c κs = search needs
+
+zeros-zero-requires : tie.Need-zeros-zero-requires
+zeros-zero-requires c κs = search needs
+
+place-counts-requires : tie.Need-place-counts-requires
+place-counts-requires c κs = search needs
+
+line-at-requires : tie.Need-line-at-requires
+line-at-requires c κs = below c
+
+numbers-fit-requires : tie.Need-numbers-fit-requires
+numbers-fit-requires c κs = search needs
+
+premises-held-requires : tie.Need-premises-held-requires
+premises-held-requires c κs = search needs
+
+conclude-requires : tie.Need-conclude-requires
+conclude-requires c κs = search needs
+
+add-fact-requires : tie.Need-add-fact-requires
+add-fact-requires c κs = search needs
+
+returns : tie.Need-returns
+returns c =
+    let conc = c .before .before .before in
+    let prem = conc .before .before in
+    let fit = prem .before .before .before in (
+      rw (judged (fit .before .before), sym (fit .before .numbers-fit .ensures) ∙ fit .if3 .taken, sym (prem .premises-held .ensures) ∙ conc .before .if4 .taken),
+      rw (conc .conclude .ensures ∙ concluded (fit .before .before)) at (c .add-fact .ensures),
+    )
+
+returns-2 : tie.Need-returns-2
+returns-2 c =
+    let fit = c .before .before .before .before in (
+      rw (judged (fit .before .before), sym (fit .before .numbers-fit .ensures) ∙ fit .if3 .taken, sym (c .before .premises-held .ensures) ∙ c .if4 .left),
+      (refl, refl),
+    )
+
+returns-3 : tie.Need-returns-3
+returns-3 c = (rw (judged (c .before .before), sym (c .before .numbers-fit .ensures) ∙ c .if3 .left), (refl, refl))
+
+returns-4 : tie.Need-returns-4
+returns-4 c =
+    let read = c .before .before .before .before .read-step .ensures in (
+      rw (good-parts _ _ read refl, zeros-good (c .before .before), sym (c .before .place-counts .ensures) ∙ c .if2 .left),
+      (refl, refl),
+    )
+
+returns-5 : tie.Need-returns-5
+returns-5 c = (rw (sym (c .before .zeros-zero .ensures) ∙ c .if1 .left), (refl, refl))
+
+pub check-step-spec : {M : Type 1} → statement M
+check-step-spec =
+    tie.close
+    (tie.spec
+    read-step-requires
+    zeros-zero-requires
+    place-counts-requires
+    line-at-requires
+    numbers-fit-requires
+    premises-held-requires
+    conclude-requires
+    add-fact-requires
+    returns
+    returns-2
+    returns-3
+    returns-4
+    returns-5)

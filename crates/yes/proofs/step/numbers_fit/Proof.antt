@@ -1,0 +1,49 @@
+-- `sheets::step::numbers_fit` meets its contract, test by test.
+use mathlib.Core.Path.{sym, _∙_}
+use borrow.Author.Tests.{lt-ltb, le-ltb}
+use borrow.Author.Needs.{needs}
+use Rattle.yes.proofs.step.numbers_fit.Statement.{statement}
+use Rattle.yes.proofs.step.numbers_fit.Tie as tie
+
+cast-if1 : tie.Need-cast-if1
+cast-if1 c = search needs
+
+returns : tie.Need-returns
+returns c = rw (le-ltb _ _ (c .if1 .taken))
+
+uses-y-requires : tie.Need-uses-y-requires
+uses-y-requires c κs = search needs
+
+number-fits-requires : tie.Need-number-fits-requires
+number-fits-requires c κs = search needs
+
+uses-z-requires : tie.Need-uses-z-requires
+uses-z-requires c κs = search needs
+
+number-fits-requires-2 : tie.Need-number-fits-requires-2
+number-fits-requires-2 c κs = search needs
+
+returns-2 : tie.Need-returns-2
+returns-2 c =
+    let y = c .before .before in
+    let fits = rw (y .before .before .uses-y .ensures) at (y .before .number-fits .ensures) in
+    rw (lt-ltb _ _ (y .before .before .before .if1 .left), sym fits ∙ y .if2 .taken)
+    (rw (c .before .uses-z .ensures) at (c .number-fits2 .ensures))
+
+returns-3 : tie.Need-returns-3
+returns-3 c =
+    let fits = rw (c .before .before .uses-y .ensures) at (c .before .number-fits .ensures) in
+    rw (lt-ltb _ _ (c .before .before .before .if1 .left), sym fits ∙ c .if2 .left)
+
+pub numbers-fit-spec : {M : Type 1} → statement M
+numbers-fit-spec =
+    tie.close
+    (tie.spec
+    cast-if1
+    returns
+    uses-y-requires
+    number-fits-requires
+    uses-z-requires
+    number-fits-requires-2
+    returns-2
+    returns-3)

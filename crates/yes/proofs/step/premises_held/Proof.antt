@@ -1,0 +1,39 @@
+-- `sheets::step::premises_held` meets its contract.
+use mathlib.Core.Path.{sym, _∙_}
+use borrow.Author.Needs.{needs}
+use Rattle.yes.proofs.step.premises_held.Statement.{statement}
+use Rattle.yes.proofs.step.premises_held.Tie as tie
+
+premise-one-requires : tie.Need-premise-one-requires
+premise-one-requires c κs = search needs
+
+fact-held-requires : tie.Need-fact-held-requires
+fact-held-requires c κs = search needs
+
+premise-two-requires : tie.Need-premise-two-requires
+premise-two-requires c κs = search needs
+
+fact-held-requires-2 : tie.Need-fact-held-requires-2
+fact-held-requires-2 c κs = search needs
+
+returns : tie.Need-returns
+returns c =
+    let one = c .before .before .before in
+    let known = rw (one .before .premise-one .ensures) at (one .fact-held .ensures) in
+    rw (sym known ∙ c .before .before .if1 .taken) (rw (c .before .premise-two .ensures) at (c .fact-held2 .ensures))
+
+returns-2 : tie.Need-returns-2
+returns-2 c =
+    let known = rw (c .before .before .premise-one .ensures) at (c .before .fact-held .ensures) in
+    rw (sym known ∙ c .if1 .left)
+
+pub premises-held-spec : {M : Type 1} → statement M
+premises-held-spec =
+    tie.close
+    (tie.spec
+    premise-one-requires
+    fact-held-requires
+    premise-two-requires
+    fact-held-requires-2
+    returns
+    returns-2)

@@ -1,0 +1,84 @@
+-- A yes sheet: steps of 8 bytes, each good by the steps before it.
+use Prim.Native.Nat.{ℕ, _/_, _%_}
+use mathlib.Core.Bool.{Bool, true, false, cond, not, _&&_, _||_}
+use mathlib.Core.List.{List, [], _∷_}
+use lib.Dec.{eqb, ltb, leb}
+use lib.ListN.{length, getD, take}
+use Rattle.bits.specs.Sets.{lowest}
+use Rattle.pack.specs.declared.check.Checked.{Checked}
+use Rattle.pack.specs.declared.check.Checked.the-variants as checked
+use Rattle.pack.specs.declared.line.Fact.{Fact}
+use Rattle.pack.specs.declared.line.Fact.the-variants.{In}
+use Rattle.pack.specs.declared.line.Line.{Line}
+use Rattle.pack.specs.declared.line.Step.{Step}
+use Rattle.pack.specs.World.{lineAt}
+use Rattle.pack.specs.Rules.{premiseOneOf, premiseTwoOf, conclusionOf, usesY, usesZ, free, sameFact}
+use Rattle.pack.specs.Bytes.{littleEndian, part}
+use Rattle.bits.specs.Lists.{listed}
+use Rattle.pack.specs.Record.{linesOf}
+use Rattle.pack.specs.Question.{counted, checkQuestion}
+use Rattle.yes.specs.declared.check.YesAnswer.{YesAnswer}
+use Rattle.yes.specs.declared.check.YesAnswer.the-variants as yes
+
+-- the step in an 8-byte part: record place (two bytes), X, Y, Z, and three bytes that are zero
+abbrev pub stepIn : List ℕ → Step
+stepIn p = record { place = littleEndian 2 p; x = getD p 2 0; y = getD p 3 0; z = getD p 4 0 }
+
+abbrev pub zerosIn : List ℕ → Bool
+zerosIn p = eqb (getD p 5 0) 0 && eqb (getD p 6 0) 0 && eqb (getD p 7 0) 0
+
+-- the steps of a sheet
+unfoldable pub stepsOf : List ℕ → List Step
+stepsOf sheet = listed (length sheet / 8) 0 (λ i. stepIn (part sheet i))
+
+-- some step of the list concludes f
+unfoldable pub concluded : List Line → List Step → Fact → Bool
+concluded ls [] f = false
+concluded ls (s ∷ ss) f = sameFact (conclusionOf ls s) f || concluded ls ss f
+
+-- f is free or concluded
+unfoldable pub known : List Line → ℕ → List Step → Fact → Bool
+known ls n ss f = free n f || concluded ls ss f
+
+-- a used number is below n, an unused one is zero
+abbrev pub numberFits : Bool → ℕ → ℕ → Bool
+numberFits true n y = ltb y n
+numberFits false n y = eqb y 0
+
+-- the place is one of S, and the numbers fit the line there
+unfoldable pub usable : List Line → (ℕ → Bool) → ℕ → Step → Bool
+usable ls S n s =
+    (ltb (s .place) (length ls) && S (s .place))
+    && (ltb (s .x) n && (numberFits (usesY (lineAt ls (s .place))) n (s .y) && numberFits (usesZ (lineAt ls (s .place))) n (s .z)))
+
+-- a step is good over what is known: it is usable, and its premises are known
+unfoldable pub goodOver : List Line → (ℕ → Bool) → ℕ → (Fact → Bool) → Step → Bool
+goodOver ls S n K s = usable ls S n s && (K (premiseOneOf ls s) && K (premiseTwoOf ls s))
+
+-- step i of a sheet is good: its zeros are zero, and each premise is free or concluded by an earlier step
+unfoldable pub goodAt : List Line → (ℕ → Bool) → ℕ → List ℕ → ℕ → Bool
+goodAt ls S n sheet i =
+    zerosIn (part sheet i) && goodOver ls S n (known ls n (take i (stepsOf sheet))) (stepIn (part sheet i))
+
+-- the lowest step that is not good, or the number of steps
+unfoldable pub lowestBad : List Line → (ℕ → Bool) → ℕ → List ℕ → ℕ
+lowestBad ls S n sheet = lowest (λ i. not (goodAt ls S n sheet i)) 0 (length sheet / 8)
+
+-- 10 STEP, 13 NOT SHOWN, else ACCEPTED
+unfoldable pub checkSteps : List Line → (ℕ → Bool) → ℕ → ℕ → ℕ → List ℕ → YesAnswer
+checkSteps ls S n a b sheet =
+    cond (ltb (lowestBad ls S n sheet) (length sheet / 8))
+    (yes.Step (lowestBad ls S n sheet))
+    (cond (known ls n (stepsOf sheet) (In a b)) yes.Accepted yes.NotShown)
+
+-- a multiple of 8, at most 65,536 steps
+abbrev pub yesLengthFits : List ℕ → Bool
+yesLengthFits sheet = eqb (length sheet % 8) 0 && leb (length sheet) 524288
+
+-- 1 to 5, 9 LENGTH, then the steps
+abbrev pub yesAfter : Checked → ℕ → List ℕ → List ℕ → ℕ → ℕ → List ℕ → YesAnswer
+yesAfter (checked.Refused why) n s ws a b sheet = yes.Refused why
+yesAfter (checked.Count k) n s ws a b sheet = cond (yesLengthFits sheet) (checkSteps (linesOf s) (counted s ws) n a b sheet) yes.Length
+
+unfoldable pub checkYes : ℕ → ℕ → List ℕ → List ℕ → ℕ → ℕ → List ℕ → YesAnswer
+checkYes n m s ws a b sheet = yesAfter (checkQuestion n m s ws a b) n s ws a b sheet

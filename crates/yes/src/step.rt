@@ -1,0 +1,118 @@
+// One step of a yes sheet: read, judged by what is held so far, and its conclusion added to that.
+ghost use mathlib.Core.Path.{_≡_};
+ghost use mathlib.Core.Bool.{cond, _&&_};
+ghost use Prim.Native.Nat.{_≤_, _/_};
+ghost use lib.Dec.{ltb};
+ghost use lib.ListN.{length};
+ghost use Rattle.pack.specs.Rules.{conclusionOf};
+ghost use Rattle.pack.specs.Record.{linesOf};
+ghost use Rattle.pack.specs.Question.{counted};
+ghost use Rattle.tables.specs.Tables.{held, addedConcepts, addedLinks};
+ghost use Rattle.yes.specs.YesSheet.{stepIn, zerosIn, numberFits, goodOver};
+ghost use Rattle.yes.specs.Inner.{numbersFit, premisesKnown};
+use marks::look::is_marked;
+use pack::bytes::two_bytes;
+use pack::check::line_at;
+use pack::line::Line;
+use pack::line::Step;
+use pack::line::conclude;
+use pack::line::premise_one;
+use pack::line::premise_two;
+use pack::line::uses_y;
+use pack::line::uses_z;
+use tables::add_fact;
+use tables::fact_held;
+
+// The step in an 8-byte part.
+fn read_step(part: &[u8]) -> Step
+    requires { ⌜ 8 ≤ length (now part) ⌝ }
+    ensures { λ r. ⌜ r ≡ stepIn (now (part .entry)) ⌝ }
+{
+    Step {
+        place: two_bytes(part[0], part[1]),
+        x: part[2],
+        y: part[3],
+        z: part[4],
+    }
+}
+
+// Are the last three bytes of the part zero?
+fn zeros_zero(part: &[u8]) -> bool
+    requires { ⌜ 8 ≤ length (now part) ⌝ }
+    ensures { λ r. ⌜ r ≡ zerosIn (now (part .entry)) ⌝ }
+{
+    let first = part[5] == 0;
+    let second = part[6] == 0;
+    let third = part[7] == 0;
+    first & second & third
+}
+
+// Is a used number below n, and an unused one zero?
+fn number_fits(used: bool, y: u8, n: usize) -> bool
+    ensures { λ r. ⌜ r ≡ numberFits used n y ⌝ }
+{
+    if used { (y as usize) < n } else { y == 0 }
+}
+
+// Do a step's numbers fit the line?
+fn numbers_fit(l: Line, s: Step, n: usize) -> bool
+    ensures { λ r. ⌜ r ≡ numbersFit l n s ⌝ }
+{
+    if n <= s.x as usize {
+        return false;
+    }
+    if number_fits(uses_y(l), s.y, n) {
+        return number_fits(uses_z(l), s.z, n);
+    }
+    false
+}
+
+// Are the premises of the line held?
+fn premises_held<'a>(l: Line, s: Step, concepts: &'a [u64; 64], links: &'a [u64; 512]) -> bool
+    ensures { λ r. ⌜ r ≡ premisesKnown l (held (now (concepts .entry)) (now (links .entry))) s ⌝ }
+{
+    if fact_held(premise_one(l, s.x, s.y), concepts, links) {
+        return fact_held(premise_two(l, s.x, s.y, s.z), concepts, links);
+    }
+    false
+}
+
+// Is the place that of a record that counts?
+fn place_counts<'a>(pack: &'a [u8], marks: &'a [u64], place: usize) -> bool
+    ensures { λ r. ⌜ r ≡ (ltb place (length (now (pack .entry)) / 8) && counted (now (pack .entry)) (now (marks .entry)) place) ⌝ }
+{
+    if place < pack.len() / 8 {
+        return is_marked(marks, place);
+    }
+    false
+}
+
+// The step in an 8-byte part: is it good? If so its conclusion is added, and if not nothing is.
+pub fn check_step<'a>(
+    n: usize,
+    pack: &'a [u8],
+    marks: &'a [u64],
+    part: &'a [u8],
+    concepts: &mut [u64; 64],
+    links: &mut [u64; 512],
+) -> bool
+    requires { ⌜ 8 ≤ length (now part) ⌝ }
+    ensures good { λ r. ⌜ r ≡ (zerosIn (now (part .entry)) && goodOver (linesOf (now (pack .entry))) (counted (now (pack .entry)) (now (marks .entry))) n (held (now (concepts .entry)) (now (links .entry))) (stepIn (now (part .entry)))) ⌝ }
+    ensures concepts { λ r. ⌜ now (concepts .exit) ≡ cond r (addedConcepts (conclusionOf (linesOf (now (pack .entry))) (stepIn (now (part .entry)))) (now (concepts .entry))) (now (concepts .entry)) ⌝ }
+    ensures links { λ r. ⌜ now (links .exit) ≡ cond r (addedLinks (conclusionOf (linesOf (now (pack .entry))) (stepIn (now (part .entry)))) (now (links .entry))) (now (links .entry)) ⌝ }
+{
+    let s = read_step(part);
+    let place = s.place;
+    if zeros_zero(part) {
+        if place_counts(pack, marks, place) {
+            let l = line_at(pack, place);
+            if numbers_fit(l, s, n) {
+                if premises_held(l, s, concepts, links) {
+                    add_fact(conclude(l, s.x, s.y, s.z), concepts, links);
+                    return true;
+                }
+            }
+        }
+    }
+    false
+}
