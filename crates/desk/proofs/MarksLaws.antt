@@ -19,8 +19,8 @@ use Rattle.pack.specs.Question.{counted, Taken}
 use Rattle.pack.specs.World.{Follows}
 use Rattle.pack.specs.Record.{linesOf}
 use Rattle.bits.proofs.ListLaws.{listed-length, listed-at}
-use Rattle.engine.specs.Sheet.{wordBytes}
-use Rattle.engine.proofs.BytesLaws.{parts-length, parts-all, parts-on, word-length, word-in, with-part}
+use Rattle.writer.specs.Sheet.{wordBytes}
+use Rattle.writer.proofs.BytesLaws.{parts-length, parts-all, parts-on, word-length, word-in, with-part}
 use Rattle.reasons.specs.Reach.{moduleOf}
 use Rattle.reasons.specs.Module.{moduleMarks, moduleOut, askModule, writtenModule}
 use Rattle.reasons.proofs.ModuleLaws.{MarksModule, module-written, module-right, module-length}

@@ -4,7 +4,7 @@ use mathlib.Core.List.{List}
 use Prim.Native.Nat.{ℕ}
 use Rattle.bits.proofs.Promises.{no-second}
 use Rattle.pack.specs.Bytes.{marksIn}
-use Rattle.engine.specs.Sheet.{writtenSheet}
+use Rattle.writer.specs.Sheet.{writtenSheet}
 use Rattle.desk.specs.Desk.{packCode, questionCode, verdictCode, sheetCode, moduleCode, moduleBytes, setCode, setBytes}
 
 pub check-pack-call-fixed : (n m : ℕ) (s : List ℕ) (r r′ : ℕ) → r ≡ packCode n m s → r′ ≡ packCode n m s → r ≡ r′

@@ -17,7 +17,7 @@ use Rattle.pack.specs.Bytes.{wordsIn, marksIn}
 use Rattle.pack.specs.Question.{checkQuestion}
 use Rattle.pack.proofs.QuestionLaws.{asked}
 use Rattle.engine.specs.Verdict.{askVerdict}
-use Rattle.engine.specs.Sheet.{askSheet, writtenSheet}
+use Rattle.writer.specs.Sheet.{askSheet, writtenSheet}
 use Rattle.reasons.proofs.OutLaws.{reason-unread}
 use Rattle.reasons.proofs.ModuleLaws.{module-refused}
 use Rattle.reasons.proofs.SetLaws.{set-refused}

@@ -6,10 +6,11 @@ use Rattle.pack.specs.Answers.{refusalPlace, checkedNumber, checkedValue}
 use Rattle.pack.specs.Bytes.{marksIn}
 use Rattle.pack.specs.Pack.{checkPack}
 use Rattle.pack.specs.Question.{checkQuestion}
-use Rattle.engine.specs.declared.write.SheetAnswer.{SheetAnswer}
-use Rattle.engine.specs.declared.write.SheetAnswer.the-variants as answer
-use Rattle.engine.specs.Answers.{verdictNumber, verdictValue, sheetNumber}
-use Rattle.engine.specs.Sheet.{wordBytes, askSheet}
+use Rattle.writer.specs.declared.write.SheetAnswer.{SheetAnswer}
+use Rattle.writer.specs.declared.write.SheetAnswer.the-variants as answer
+use Rattle.engine.specs.Answers.{verdictNumber, verdictValue}
+use Rattle.writer.specs.Sheet.{sheetNumber}
+use Rattle.writer.specs.Sheet.{wordBytes, askSheet}
 use Rattle.engine.specs.Verdict.{askVerdict}
 use Rattle.reasons.specs.Module.{moduleMarks, moduleOut, askModule}
 use Rattle.reasons.specs.declared.set.SetAnswer.{SetAnswer}

@@ -1,14 +1,14 @@
 // The checks, the verdict and the sheet writer for C: each is the Rattle call of its name, the marks as 128 bytes.
 ghost use mathlib.Core.Path.{_≡_};
 ghost use Rattle.pack.specs.Bytes.{marksIn};
-ghost use Rattle.engine.specs.Sheet.{writtenSheet};
+ghost use Rattle.writer.specs.Sheet.{writtenSheet};
 ghost use Rattle.desk.specs.Desk.{packCode, questionCode, verdictCode, sheetCode};
 use crate::code::checked_code;
 use crate::code::sheet_code;
 use crate::code::unread_code;
 use crate::code::verdict_code;
 use engine::verdict::verdict;
-use engine::write::write_sheet;
+use writer::write::write_sheet;
 use pack::bytes::read_marks;
 use pack::check::check_pack;
 use pack::question::check_question;

@@ -9,7 +9,7 @@ ghost use Rattle.reasons.specs.Set.{setNumber, setValue, setOut};
 ghost use Rattle.desk.specs.Desk.{deskCode, wordsBytes, moduleCode, moduleBytes, setCode, setBytes};
 use crate::code::desk_code;
 use crate::code::unread_code;
-use engine::write::write_word;
+use writer::write::write_word;
 use pack::bytes::read_marks;
 use pack::check::Checked;
 use pack::check::refusal_number;

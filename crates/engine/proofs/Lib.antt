@@ -1,8 +1,6 @@
--- The laws of the engine: the goal's step, runs that may stop, the verdict, bytes, the writer; that our sheets are accepted.
+-- The laws of the engine: the goal's step, runs that may stop, the verdict, completion.
 pub mod GoalLaws
 pub mod RunLaws
 pub mod VerdictLaws
+pub mod VerdictRight
 pub mod CompleteLaws
-pub mod BytesLaws
-pub mod WriteLaws
-pub mod OursLaws

@@ -1,5 +1,4 @@
--- What the engine answers: the verdict and our sheets.
+-- What the engine answers: the verdict.
 pub mod Verdict
-pub mod Sheet
 pub mod Answers
 pub mod Inner

@@ -1,5 +1,4 @@
-// The engine: passes over the rows, the verdict, and the writers of our sheets.
+// The engine: passes over the rows, the verdict, completion.
 pub mod complete;
 pub mod run;
 pub mod verdict;
-pub mod write;

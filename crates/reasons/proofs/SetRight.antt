@@ -13,7 +13,7 @@ use Rattle.pack.specs.Record.{linesOf}
 use Rattle.pack.specs.World.{Follows}
 use Rattle.engine.specs.declared.verdict.VerdictAnswer.the-variants as verdict
 use Rattle.engine.proofs.VerdictLaws.{question, valid}
-use Rattle.engine.proofs.OursLaws.{verdict-right}
+use Rattle.engine.proofs.VerdictRight.{verdict-right}
 use Rattle.reasons.specs.declared.set.SetAnswer.{SetAnswer}
 use Rattle.reasons.specs.declared.set.SetAnswer.the-variants as answer
 use Rattle.reasons.specs.Printed.{IsPrinted, without, printed}

@@ -1,4 +1,4 @@
-use Rattle.engine.proofs.OursLaws.{verdict-right}
+use Rattle.engine.proofs.VerdictRight.{verdict-right}
 use mathlib.Core.Path.{refl, sym, _∙_}
 -- `reasons::set::set_taken` meets its contract: by the verdict.
 use borrow.Author.Needs.{needs}

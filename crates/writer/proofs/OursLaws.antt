@@ -1,0 +1,203 @@
+-- Our verdict is right, our sheets are accepted, and no second result satisfies a promise of the engine.
+use mathlib.Core.Path.{_≡_, refl, sym, ap, ap₂, _∙_, subst, fun-ext}
+use mathlib.Core.Logic.{_⊎_, inl, inr}
+use mathlib.Core.Bool.{Bool, true, false, cond, _&&_}
+use mathlib.Core.List.{List, map, flatten}
+use Prim.Native.Nat.{ℕ, _+_, _*_, _/_, _%_, _≤_, _<_}
+use native.Mathlib.Nat.{mul-left-comm, mul-div-cancel, mul-mod-left}
+use native.Mathlib.Omega.{arith}
+use lib.Dec.{eqb, ltb, leb}
+use lib.ListN.{length, getD, take, drop}
+use lib.Pow.{pow-mono}
+use lib.Seq.{take-at}
+use borrow.Author.Tests.{eq-eqb, le-leb, leb-true, leb-false}
+use Rattle.bits.specs.Bit.{has}
+use Rattle.bits.proofs.BitLaws.{has-high}
+use Rattle.bits.proofs.Promises.{no-second}
+use Rattle.bits.proofs.SetLaws.{some-false}
+use Rattle.bits.proofs.Truth.{true-and}
+use Rattle.pack.specs.declared.check.Checked.{Checked}
+use Rattle.pack.specs.declared.check.Checked.the-variants as checked
+use Rattle.pack.specs.declared.line.Fact.the-variants.{In}
+use Rattle.pack.specs.declared.line.Step.{Step}
+use Rattle.pack.specs.Bytes.{part}
+use Rattle.pack.specs.Question.{counted, checkQuestion}
+use Rattle.pack.specs.Record.{linesOf}
+use Rattle.pack.specs.World.{World, Is, Obeys, Follows}
+use Rattle.pack.proofs.RecordLaws.{lines-length}
+use Rattle.yes.specs.declared.check.YesAnswer.the-variants as yes
+use Rattle.no.specs.declared.check.NoAnswer.the-variants as no
+use Rattle.yes.specs.YesSheet.{stepIn, zerosIn, stepsOf, known, goodOver, goodAt, checkYes}
+use Rattle.no.specs.NoSheet.{rowAt, thingsIn, noLengthFits, forbidden, worldOf, checkNo}
+use Rattle.yes.proofs.YesLaws.{yes-accepts}
+use Rattle.no.proofs.NoLaws.{no-accepts}
+use Rattle.sheets.proofs.Verdicts.{never-both}
+use Rattle.passes.specs.Ours.{ourSteps, ourRows}
+use Rattle.passes.proofs.PassLaws.{not-free-most}
+use Rattle.passes.proofs.YesLaws.{ours-good, ours-small, ours-known, ours-most}
+use Rattle.passes.proofs.NoLaws.{rows-length, rows-small, ourWorld, rows-obey, rows-refute}
+use Rattle.sweep.specs.Writing.{stepBytes}
+use Rattle.engine.specs.declared.verdict.VerdictAnswer.the-variants as verdicts
+use Rattle.writer.specs.declared.write.SheetAnswer.{SheetAnswer}
+use Rattle.writer.specs.declared.write.SheetAnswer.the-variants as sheets
+use Rattle.engine.specs.Verdict.{follows}
+use Rattle.writer.specs.Sheet.{yesBytes, noBytes, ourSheet, sheetAnswer, sheetAfter, askSheet, sheetOut, writtenSheet}
+use Rattle.engine.proofs.VerdictLaws.{question, valid, too-long-never}
+use Rattle.writer.proofs.BytesLaws.{parts-length, parts-all, zeros-in, step-in, steps-of, rows-of, yes-length, no-length}
+
+-- the world that the bytes of our rows describe is the one of our rows
+module _ (n m : ℕ) (s ws : List ℕ) (few : n ≤ 64) where
+  no-whole : length (noBytes n m s ws) ≡ n * (8 * (1 + m))
+  no-whole = no-length n m s ws ∙ ap (λ (k : ℕ). 8 * k) (rows-length (linesOf s) (counted s ws) n m) ∙ mul-left-comm 8 n (1 + m)
+
+  no-things : thingsIn m (noBytes n m s ws) ≡ n
+  no-things = ap (λ (k : ℕ). k / (8 * (1 + m))) no-whole ∙ mul-div-cancel n (omega arith)
+
+  no-fits : 1 ≤ n → noLengthFits m (noBytes n m s ws) ≡ true
+  no-fits h =
+      let size = length (noBytes n m s ws) in
+      let k = thingsIn m (noBytes n m s ws) in
+      let things = no-things in
+      let rest : size % (8 * (1 + m)) ≡ 0 = ap (λ (l : ℕ). l % (8 * (1 + m))) no-whole ∙ mul-mod-left n (8 * (1 + m)) in
+      true-and (eqb (size % (8 * (1 + m))) 0) (leb 1 k && leb k 64) (eq-eqb (size % (8 * (1 + m))) 0 rest)
+      (true-and (leb 1 k) (leb k 64) (le-leb 1 k (omega arith)) (le-leb k 64 (omega arith)))
+
+  no-rows : (i : ℕ) → rowAt (noBytes n m s ws) i ≡ getD (ourRows (linesOf s) (counted s ws) n m) i 0
+  unfolding noBytes
+  no-rows =
+      rows-of (ourRows (linesOf s) (counted s ws) n m)
+      (λ i. omega (arith, rows-small (linesOf s) (counted s ws) n m i, pow-mono few))
+
+  no-clean : (i : ℕ) → forbidden n (thingsIn m (noBytes n m s ws)) (noBytes n m s ws) i ≡ false
+  unfolding forbidden
+  no-clean i = rw no-things (some-false (λ j. leb (cond (ltb i n) n n) j && has (rowAt (noBytes n m s ws) i) j) 64 (λ j _. at j (ltb i n)))
+    where
+      high : (j : ℕ) (t : Bool) → leb n j ≡ t → (t && has (rowAt (noBytes n m s ws) i) j) ≡ false
+      high j true e = ap (λ (w : ℕ). has w j) (no-rows i) ∙ has-high n (getD (ourRows (linesOf s) (counted s ws) n m) i 0) j (rows-small (linesOf s) (counted s ws) n m i) (leb-true n j e)
+      high j false e = refl
+
+      at : (j : ℕ) (t : Bool) → (leb (cond t n n) j && has (rowAt (noBytes n m s ws) i) j) ≡ false
+      at j true = high j (leb n j) refl
+      at j false = high j (leb n j) refl
+
+  no-world : worldOf (thingsIn m (noBytes n m s ws)) (noBytes n m s ws) ≡ ourWorld (linesOf s) (counted s ws) n m
+  no-world =
+      ap₂ (λ (k : ℕ) (row : ℕ → ℕ). record { things = k; isIn = λ x a. has (row x) a; linked = λ x r y. has (row (k + (r * k + x))) y })
+      no-things (fun-ext no-rows)
+
+-- some yes sheet is accepted, and some no sheet
+abbrev pub SomeYes : ℕ → ℕ → List ℕ → List ℕ → ℕ → ℕ → Type 0
+SomeYes n m s ws a b = (sheet : List ℕ) × (checkYes n m s ws a b sheet ≡ yes.Accepted)
+
+abbrev pub SomeNo : ℕ → ℕ → List ℕ → List ℕ → ℕ → ℕ → Type 0
+SomeNo n m s ws a b = (sheet : List ℕ) × (checkNo n m s ws a b sheet ≡ no.Accepted)
+
+-- a question that is taken
+module _ (n m : ℕ) (s ws : List ℕ) (a b : ℕ) {k : ℕ} (taken : checkQuestion n m s ws a b ≡ checked.Count k) where
+  -- OURS IS ACCEPTED: our yes sheet where the goal follows
+  pub ours-yes : follows n m s ws a b ≡ true → checkYes n m s ws a b (yesBytes n m s ws a b) ≡ yes.Accepted
+  unfolding follows yesBytes goodAt
+  ours-yes h =
+      let ls = linesOf s in
+      let S = counted s ws in
+      let ss = ourSteps ls S n m a b in
+      let sheet = flatten (map stepBytes ss) in
+      let d : Step = record { place = 0; x = 0; y = 0; z = 0 } in
+      let l = parts-length stepBytes (λ s. refl) ss in
+      let most = ours-most ls S n m a b (valid n m s ws a b taken) (question n m s ws a b taken .goalA) h in
+      let few = not-free-most n m (question n m s ws a b taken .pack .n-most) (question n m s ws a b taken .pack .m-most) in
+      let size = question n m s ws a b taken .pack .size in
+      let lines = lines-length s in
+      let small : (i : ℕ) → i < length ss → getD ss i d .place < 65536 =
+      λ i g. (let p = ours-small ls S n m a b (valid n m s ws a b taken) (question n m s ws a b taken .goalA) h i d g .place-there in omega arith) in
+      let all : stepsOf sheet ≡ ss = steps-of ss d small in
+      yes-accepts n m s ws a b sheet taken
+      (true-and (eqb (length sheet % 8) 0) (leb (length sheet) 524288) (eq-eqb (length sheet % 8) 0 (omega arith)) (le-leb (length sheet) 524288 (omega arith)))
+      (λ i g.
+      let there : i < length ss = omega arith in
+      let p = parts-all stepBytes (λ s. refl) ss i d there in
+      true-and (zerosIn (part sheet i)) (goodOver ls S n (known ls n (take i (stepsOf sheet))) (stepIn (part sheet i)))
+      (ap zerosIn p ∙ zeros-in (getD ss i d))
+      (ap₂ (λ (before : List Step) (step : Step). goodOver ls S n (known ls n (take i before)) step) all (ap stepIn p ∙ step-in (getD ss i d) (small i there))
+      ∙ ours-good ls S n m a b (valid n m s ws a b taken) (question n m s ws a b taken .goalA) h i d there))
+      (ap (λ (steps : List Step). known ls n steps (In a b)) all ∙ ours-known ls S n m a b (valid n m s ws a b taken) (question n m s ws a b taken .goalA) h)
+
+  -- and our no sheet where it does not
+  pub ours-no : follows n m s ws a b ≡ false → checkNo n m s ws a b (noBytes n m s ws) ≡ no.Accepted
+  unfolding follows
+  ours-no h =
+      let ls = linesOf s in
+      let S = counted s ws in
+      let few = question n m s ws a b taken .pack .n-most in
+      let there = question n m s ws a b taken .goalA in
+      let world = sym (no-world n m s ws few) in
+      let things = no-things n m s ws few in
+      let goal = rows-refute ls S n m (valid n m s ws a b taken) a b (question n m s ws a b taken .goalA) (question n m s ws a b taken .goalB) h in
+      no-accepts n m s ws a b (noBytes n m s ws) taken (no-fits n m s ws few (question n m s ws a b taken .pack .n-some)) (λ i _. no-clean n m s ws few i)
+      (subst (λ (w : World). Obeys w ls S) world (rows-obey ls S n m (valid n m s ws a b taken)))
+      a (omega arith)
+      (subst (λ (w : World). Is w a a) world (goal .0))
+      (subst (λ (w : World). w .isIn a b ≡ false) world (goal .1))
+
+  -- EXACTLY ONE SORT OF SHEET IS ACCEPTED
+  pub exactly-one : (SomeYes n m s ws a b × (SomeNo n m s ws a b → ⊥)) ⊎ (SomeNo n m s ws a b × (SomeYes n m s ws a b → ⊥))
+  exactly-one = go (follows n m s ws a b) refl
+    where
+      go : (t : Bool) → follows n m s ws a b ≡ t → (SomeYes n m s ws a b × (SomeNo n m s ws a b → ⊥)) ⊎ (SomeNo n m s ws a b × (SomeYes n m s ws a b → ⊥))
+      go true e = let y = ours-yes e in inl ((yesBytes n m s ws a b, y), λ z. never-both n m s ws a b (yesBytes n m s ws a b) (z .0) y (z .1))
+      go false e = let z = ours-no e in inr ((noBytes n m s ws, z), λ y. never-both n m s ws a b (y .0) (noBytes n m s ws) (y .1) z)
+
+-- the sheet writer
+module _ (n m : ℕ) (s ws : List ℕ) (a b : ℕ) (sheet : List ℕ) where
+  -- what an answer shows, and the sheet afterwards: the steps or rows are as many as ours, and so many parts of the sheet are accepted
+  abbrev pub Shows : SheetAnswer → List ℕ → Type 0
+  Shows (sheets.Refused why) left = checkQuestion n m s ws a b ≡ checked.Refused why
+  Shows sheets.TooLong left = ⊥
+  Shows (sheets.NoRoom k) left = (k ≡ length (ourSheet n m s ws a b)) × (length sheet < k)
+  Shows (sheets.Follows j) left = (j ≡ length (ourSteps (linesOf s) (counted s ws) n m a b)) × (checkYes n m s ws a b (take (8 * j) left) ≡ yes.Accepted)
+  Shows (sheets.Not j) left = (j ≡ length (ourRows (linesOf s) (counted s ws) n m)) × (checkNo n m s ws a b (take (8 * j) left) ≡ no.Accepted)
+
+  -- WHAT THE WRITER SAYS IS SO OF WHAT IT WROTE
+  pub joined : Shows (askSheet n m s ws a b sheet) (writtenSheet n m s ws a b sheet)
+  unfolding askSheet writtenSheet
+  joined = after (checkQuestion n m s ws a b) refl
+    where
+      shown : {k : ℕ} → checkQuestion n m s ws a b ≡ checked.Count k → (t room : Bool) → follows n m s ws a b ≡ t → leb (length (cond t (yesBytes n m s ws a b) (noBytes n m s ws))) (length sheet) ≡ room
+          → let ours = cond t (yesBytes n m s ws a b) (noBytes n m s ws) in let r = sheetAnswer t (length ours / 8) room in Shows r (sheetOut r ours sheet)
+      shown e true true f g =
+          let ours = yesBytes n m s ws a b in
+          let l = yes-length n m s ws a b in
+          (omega arith, ap (checkYes n m s ws a b) (take-at ours (drop (length ours) sheet) (8 * (length ours / 8)) (omega arith)) ∙ ours-yes n m s ws a b e f)
+      shown e false true f g =
+          let ours = noBytes n m s ws in
+          let l = no-length n m s ws in
+          (omega arith, ap (checkNo n m s ws a b) (take-at ours (drop (length ours) sheet) (8 * (length ours / 8)) (omega arith)) ∙ ours-no n m s ws a b e f)
+      shown e true false f g =
+          let l = yes-length n m s ws a b in
+          let less = leb-false (length (yesBytes n m s ws a b)) (length sheet) g in
+          rw f (omega arith, omega arith)
+      shown e false false f g =
+          let l = no-length n m s ws in
+          let less = leb-false (length (noBytes n m s ws)) (length sheet) g in
+          rw f (omega arith, omega arith)
+
+      after : (q : Checked) → checkQuestion n m s ws a b ≡ q → Shows (sheetAfter q n m s ws a b sheet) (sheetOut (sheetAfter q n m s ws a b sheet) (ourSheet n m s ws a b) sheet)
+      after (checked.Refused why) e = e
+      after (checked.Count k) e = rw (too-long-never n m s ws a b e) (shown e (follows n m s ws a b) (leb (length (ourSheet n m s ws a b)) (length sheet)) refl refl)
+
+  -- FOLLOWS: AS MANY STEPS AS OURS, ACCEPTED
+  pub joined-yes : {j : ℕ} → askSheet n m s ws a b sheet ≡ sheets.Follows j
+      → (j ≡ length (ourSteps (linesOf s) (counted s ws) n m a b)) × (checkYes n m s ws a b (take (8 * j) (writtenSheet n m s ws a b sheet)) ≡ yes.Accepted)
+  joined-yes h = subst (λ (r : SheetAnswer). Shows r (writtenSheet n m s ws a b sheet)) h joined
+
+  -- NOT: AS MANY ROWS AS OURS, ACCEPTED
+  pub joined-no : {j : ℕ} → askSheet n m s ws a b sheet ≡ sheets.Not j
+      → (j ≡ length (ourRows (linesOf s) (counted s ws) n m)) × (checkNo n m s ws a b (take (8 * j) (writtenSheet n m s ws a b sheet)) ≡ no.Accepted)
+  joined-no h = subst (λ (r : SheetAnswer). Shows r (writtenSheet n m s ws a b sheet)) h joined
+
+-- NO SECOND RESULT, and no second later content of the sheet, satisfies the promise of a call
+pub sheet-fixed : (n m : ℕ) (s ws : List ℕ) (a b : ℕ) (sheet : List ℕ) (r r′ : SheetAnswer) (sheet₁ sheet₂ : List ℕ)
+    → (r ≡ askSheet n m s ws a b sheet) × (sheet₁ ≡ writtenSheet n m s ws a b sheet)
+    → (r′ ≡ askSheet n m s ws a b sheet) × (sheet₂ ≡ writtenSheet n m s ws a b sheet)
+    → (r ≡ r′) × (sheet₁ ≡ sheet₂)
+sheet-fixed n m s ws a b sheet r r′ sheet₁ sheet₂ p q = (no-second (p .0) (q .0), no-second (p .1) (q .1))

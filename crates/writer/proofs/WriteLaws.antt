@@ -1,0 +1,248 @@
+-- Laws of the sheet writer: rows put into their parts one after the other, and what the answers leave on the sheet.
+use mathlib.Core.Path.{_≡_, refl, sym, ap, _∙_}
+use mathlib.Core.Bool.{Bool, true, false, cond}
+use mathlib.Core.List.{List, [], _∷_, _++_, map, flatten, reverse, append-assoc, append-nil}
+use Prim.Native.Nat.{ℕ, _+_, _-_, _*_, _/_, _%_, _^_, _≤_, _<_}
+use native.Mathlib.Decide.{decLt}
+use native.Mathlib.Nat.{zero-add, mul-comm, mul-add, mul-one, mod-lt, div-add-mod', div-lt-iff-lt-mul}
+use native.Mathlib.Numerals.{add-one}
+use native.Mathlib.Omega.{arith}
+use lib.ListN.{length, getD, drop, length-append, length-drop, length-reverse, drop-of-length-le}
+use lib.Seq.{take-at, drop-append-add, drop-drop, ext-getD}
+use lib.Dec.{leb}
+use borrow.Author.Tests.{le-leb, lt-leb, lt-ltb, le-ltb, eq-eqb}
+use borrow.Rule.Slice.PartMut.{putMid, post-is}
+use Rattle.bits.specs.Bit.{has, row}
+use Rattle.bits.proofs.BitLaws.{has-high}
+use Rattle.bits.proofs.Truth.{never}
+use Rattle.pack.specs.declared.check.Checked.the-variants as checked
+use Rattle.pack.specs.declared.line.Fact.{Fact}
+use Rattle.pack.specs.declared.line.Fact.the-variants.{In, Link}
+use Rattle.pack.specs.declared.line.Line.{Line}
+use Rattle.pack.specs.declared.line.Step.{Step}
+use Rattle.pack.specs.Question.{counted, checkQuestion}
+use Rattle.pack.specs.Record.{linesOf}
+use Rattle.pack.specs.Rules.{free}
+use Rattle.pack.proofs.QuestionLaws.{Asked}
+use Rattle.tables.specs.Tables.{held, heldIn, heldLink}
+use Rattle.passes.specs.Saturation.{holds}
+use Rattle.passes.specs.Passes.{el, finished, table}
+use Rattle.passes.specs.Ours.{ourSteps, ourRows}
+use Rattle.bits.proofs.RowLaws.{row-only}
+use Rattle.passes.proofs.NoLaws.{row-concepts, row-links}
+use Rattle.passes.proofs.NoLaws as ours
+use Rattle.passes.proofs.StopLaws.{ours-none, goal-free}
+use Rattle.sweep.specs.Inner.{Agree}
+use Rattle.sweep.specs.Writing.{stepBytes}
+use Rattle.bits.specs.Lists.{listed}
+use Rattle.bits.proofs.ListLaws.{listed-length, listed-at, listed-snoc}
+use Rattle.writer.specs.declared.write.SheetAnswer.{SheetAnswer}
+use Rattle.writer.specs.declared.write.SheetAnswer.the-variants as answer
+use Rattle.writer.specs.Sheet.{wordBytes, yesBytes, noBytes, ourSheet, sheetAnswer, sheetOut, askSheet, writtenSheet}
+use Rattle.engine.specs.Verdict.{follows}
+use Rattle.engine.specs.Inner.{Ran}
+use Rattle.writer.specs.Inner.{rowIn, rowsBytes}
+use Rattle.engine.proofs.VerdictLaws.{question, too-long-never, end-held, end-not}
+use Rattle.writer.proofs.BytesLaws.{parts-length, parts-more, word-length, with-steps, yes-length, no-length}
+
+module _ (n : ℕ) (cs lks : List ℕ) where
+  -- the bytes of the first i rows, and what stands after them
+  abbrev pub Filled : List ℕ → ℕ → List ℕ
+  Filled sheet₀ i = rowsBytes n i cs lks ++ drop (i * 8) sheet₀
+
+  pub rows-length : (i : ℕ) → length (rowsBytes n i cs lks) ≡ i * 8
+  unfolding rowsBytes
+  rows-length i = parts-length wordBytes word-length (listed i 0 (rowIn n cs lks)) ∙ omega (arith, listed-length (rowIn n cs lks) i 0)
+
+  rows-more : (i : ℕ) → rowsBytes n (i + 1) cs lks ≡ rowsBytes n i cs lks ++ wordBytes (rowIn n cs lks i)
+  unfolding rowsBytes flatten
+  rows-more i =
+      let e : listed (i + 1) 0 (rowIn n cs lks) ≡ listed i 0 (rowIn n cs lks) ++ (rowIn n cs lks i ∷ []) =
+      ap (λ (c : ℕ). listed c 0 (rowIn n cs lks)) (add-one i) ∙ listed-snoc (rowIn n cs lks) i 0 ∙ ap (λ (j : ℕ). listed i 0 (rowIn n cs lks) ++ (rowIn n cs lks j ∷ [])) (zero-add i) in
+      ap (λ (l : List ℕ). flatten (map wordBytes l)) e ∙ parts-more wordBytes word-length (listed i 0 (rowIn n cs lks)) (rowIn n cs lks i)
+
+  pub filled-start : (sheet₀ : List ℕ) → sheet₀ ≡ Filled sheet₀ 0
+  unfolding rowsBytes listed flatten
+  filled-start sheet₀ = refl
+
+  pub filled-length : (sheet₀ : List ℕ) (i : ℕ) → i * 8 ≤ length sheet₀ → length (Filled sheet₀ i) ≡ length sheet₀
+  filled-length sheet₀ i h = simp (length-append, length-drop) (omega (arith, rows-length i))
+
+  -- ROW i INTO ITS PART
+  pub filled-more : (sheet₀ sheet : List ℕ) (i : ℕ) {part : List ℕ} {w : ℕ} → i * 8 + 8 ≤ length sheet₀ → sheet ≡ Filled sheet₀ i → w ≡ rowIn n cs lks i → part ≡ wordBytes w → putMid (i * 8) ((i * 8 + 8) - i * 8) sheet part ≡ Filled sheet₀ (i + 1)
+  filled-more sheet₀ sheet i h e v g =
+      let rows = rowsBytes n i cs lks in
+      let l = rows-length i in
+      let at-end : i * 8 + 8 ≡ length rows + 8 = omega arith in
+      let next : i * 8 + 8 ≡ (i + 1) * 8 = omega arith in
+      let d : drop (i * 8 + 8) (Filled sheet₀ i) ≡ drop ((i + 1) * 8) sheet₀ =
+      ap (λ (k : ℕ). drop k (Filled sheet₀ i)) at-end
+      ∙ drop-append-add rows (drop (i * 8) sheet₀) 8
+      ∙ drop-drop 8 (i * 8) sheet₀
+      ∙ ap (λ (k : ℕ). drop k sheet₀) next in
+      rw (e, g, v, post-is (i * 8) (i * 8 + 8) (Filled sheet₀ i) (omega arith), take-at rows (drop (i * 8) sheet₀) (i * 8) l, d, rows-more i)
+      (sym (append-assoc rows (wordBytes (rowIn n cs lks i)) (drop ((i + 1) * 8) sheet₀)))
+
+-- a row past the concept rows is of one of the roles
+pub div-less : (i n : ℕ) → 1 ≤ n → i < n * 9 → n ≤ i → (i - n) / n < 8
+div-less i n p h l = div-lt-iff-lt-mul p .1 (let e : n * 9 ≡ 8 * n + n = omega arith in omega arith)
+
+-- the answers and what they leave, for a question that is taken
+module _ (n m : ℕ) (s ws : List ℕ) (a b : ℕ) {c : ℕ} (taken : checkQuestion n m s ws a b ≡ checked.Count c) (sheet : List ℕ) where
+  abbrev pub Answers : SheetAnswer → List ℕ → Type 0
+  Answers r after = (r ≡ askSheet n m s ws a b sheet) × (after ≡ writtenSheet n m s ws a b sheet)
+
+  -- our sheet is so many parts: the answer goes by whether there is room for them
+  module _ (positive : Bool) (said : follows n m s ws a b ≡ positive) (ours : List ℕ) (parts : ℕ) (is : ours ≡ cond positive (yesBytes n m s ws a b) (noBytes n m s ws)) (long : length ours ≡ parts * 8) where
+    whole : ourSheet n m s ws a b ≡ ours
+    whole = ap (λ (t : Bool). cond t (yesBytes n m s ws a b) (noBytes n m s ws)) said ∙ sym is
+
+    asked-parts : askSheet n m s ws a b sheet ≡ sheetAnswer positive parts (leb (parts * 8) (length sheet))
+    unfolding askSheet
+    asked-parts =
+        let d : parts * 8 / 8 ≡ parts = omega arith in
+        rw (taken, too-long-never n m s ws a b taken, said, sym is, long, d)
+
+    pub too-short : length sheet < parts * 8 → Answers (answer.NoRoom (parts * 8)) sheet
+    unfolding writtenSheet
+    too-short h =
+        let e : askSheet n m s ws a b sheet ≡ answer.NoRoom (parts * 8) =
+        asked-parts ∙ rw (lt-leb (parts * 8) (length sheet) h) (ap answer.NoRoom (mul-comm 8 parts)) in
+        (sym e, rw e)
+
+    pub long-enough : parts * 8 ≤ length sheet → Answers (cond positive (answer.Follows parts) (answer.Not parts)) (ours ++ drop (parts * 8) sheet)
+    unfolding writtenSheet
+    long-enough h = go positive refl
+      where
+        e : askSheet n m s ws a b sheet ≡ cond positive (answer.Follows parts) (answer.Not parts)
+        e = asked-parts ∙ rw (le-leb (parts * 8) (length sheet) h)
+
+        go : (t : Bool) → positive ≡ t → Answers (cond t (answer.Follows parts) (answer.Not parts)) (ours ++ drop (parts * 8) sheet)
+        go true p = let f : askSheet n m s ws a b sheet ≡ answer.Follows parts = e ∙ rw p in (sym f, rw (f, whole, long))
+        go false p = let f : askSheet n m s ws a b sheet ≡ answer.Not parts = e ∙ rw p in (sym f, rw (f, whole, long))
+
+-- THE ROWS OF THE FINISHED PASSES ARE OUR ROWS
+module _ (n m : ℕ) (ls : List Line) (S : ℕ → Bool) (blank cs lks sheet : List ℕ) (k : ℕ) (some : 1 ≤ n) (most : n ≤ 64)
+    (agree : Agree n m (free n) ls blank (finished ls S n m) cs lks sheet k) (words : (i : ℕ) → i < n * (1 + m) → rowIn n cs lks i < 2 ^ 64) where
+  -- a row of words that hold a fact for each bit
+  row-is : (w : ℕ) (f : ℕ → Fact) → w < 2 ^ 64 → ((j : ℕ) → j < 64 → has w j ≡ held cs lks (f j)) → ((j : ℕ) → held cs lks (f j) ≡ true → j < n) → w ≡ row n (λ j. table ls S n m (f j))
+  unfolding table
+  row-is w f h bits small =
+      row-only 64 n (λ j. holds (el ls) (free n) (finished ls S n m) (f j)) w most h
+      (λ j l. bits j (omega arith) ∙ agree .facts (f j))
+      (λ j l. high j l (decLt j 64))
+    where
+      none : (j : ℕ) → n ≤ j → (t : Bool) → held cs lks (f j) ≡ t → t ≡ false
+      none j l true e = let q = small j e in absurd (omega arith)
+      none j l false e = refl
+
+      high : (j : ℕ) → n ≤ j → Dec (j < 64) → has w j ≡ false
+      high j l (yes q) = bits j q ∙ none j l (held cs lks (f j)) refl
+      high j l (no q) = has-high 64 w j h (omega arith)
+
+  concept-row : (x : ℕ) → x < n → getD cs x 0 < 2 ^ 64 → getD cs x 0 ≡ row n (λ b. table ls S n m (In x b))
+  unfolding held heldIn
+  concept-row x l h =
+      row-is (getD cs x 0) (In x) h
+      (λ j q. rw (lt-ltb x 64 (omega arith), lt-ltb j 64 q))
+      (λ j e. agree .sizes (In x j) e .1)
+
+  link-row : (r x : ℕ) → r < m → m ≤ 8 → x < n → getD lks (r * 64 + x) 0 < 2 ^ 64 → getD lks (r * 64 + x) 0 ≡ row n (λ y. table ls S n m (Link x r y))
+  unfolding held heldLink
+  link-row r x lr lm lx h =
+      row-is (getD lks (r * 64 + x) 0) (Link x r) h
+      (λ j q. rw (lt-ltb x 64 (omega arith), lt-ltb r 8 (omega arith), lt-ltb j 64 q))
+      (λ j e. agree .sizes (Link x r j) e .2)
+
+  row-at : m ≤ 8 → (i : ℕ) → i < n * (1 + m) → rowIn n cs lks i ≡ getD (ourRows ls S n m) i 0
+  row-at lm i h = go (decLt i n)
+    where
+      go : Dec (i < n) → rowIn n cs lks i ≡ getD (ourRows ls S n m) i 0
+      go (yes l) =
+          let e = lt-ltb i n l in
+          let w : getD cs i 0 < 2 ^ 64 = rw e at (words i h) in
+          rw e (concept-row i l w ∙ sym (row-concepts ls S n m i l))
+      go (no l) =
+          let e = le-ltb i n (omega arith) in
+          let x = (i - n) % n in
+          let r = (i - n) / n in
+          let lx : x < n = mod-lt (i - n) some in
+          let lr : r < m = div-lt-iff-lt-mul some .1 (omega (arith, mul-add n 1 m, mul-one n, mul-comm m n)) in
+          let w : getD lks (r * 64 + x) 0 < 2 ^ 64 = rw e at (words i h) in
+          let there : n + (r * n + x) ≡ i = omega (arith, div-add-mod' (i - n) n) in
+          rw e (link-row r x lr lm lx w ∙ sym (row-links ls S n m r x lr lx) ∙ ap (λ (j : ℕ). getD (ourRows ls S n m) j 0) there)
+
+  pub our-rows : m ≤ 8 → listed (n * (1 + m)) 0 (rowIn n cs lks) ≡ ourRows ls S n m
+  our-rows lm =
+      ext-getD 0 (listed (n * (1 + m)) 0 (rowIn n cs lks)) (ourRows ls S n m)
+      (listed-length (rowIn n cs lks) (n * (1 + m)) 0 ∙ sym (ours.rows-length ls S n m))
+      (λ i h.
+      let l : i < n * (1 + m) = omega (arith, listed-length (rowIn n cs lks) (n * (1 + m)) 0) in
+      listed-at (rowIn n cs lks) 0 (n * (1 + m)) 0 i l ∙ ap (rowIn n cs lks) (zero-add i) ∙ row-at lm i l)
+
+-- the sheets of a question that is taken
+module _ (n m : ℕ) (s ws : List ℕ) (a b : ℕ) {c : ℕ} (taken : checkQuestion n m s ws a b ≡ checked.Count c) (sheet : List ℕ) where
+  -- A EQUAL TO B: nothing to show
+  pub same-sheet : a ≡ b → Answers n m s ws a b taken sheet (answer.Follows 0) sheet
+  unfolding yesBytes follows flatten
+  same-sheet e =
+      let q = question n m s ws a b taken in
+      let none : ourSteps (linesOf s) (counted s ws) n m a b ≡ [] = ours-none (linesOf s) (counted s ws) n m a b (eq-eqb a b e) in
+      let empty : [] ≡ yesBytes n m s ws a b = sym (ap (λ (l : List Step). flatten (map stepBytes l)) none) in
+      long-enough n m s ws a b taken sheet true (goal-free (linesOf s) (counted s ws) n m a b (eq-eqb a b e) (q .goalA)) [] 0 empty refl (omega arith)
+
+  module _ (yes : follows n m s ws a b ≡ true) (steps : ℕ) (many : steps ≡ length (ourSteps (linesOf s) (counted s ws) n m a b)) where
+    bytes-long : length (yesBytes n m s ws a b) ≡ steps * 8
+    bytes-long = yes-length n m s ws a b ∙ omega arith
+
+    pub yes-short : length sheet < steps * 8 → Answers n m s ws a b taken sheet (answer.NoRoom (steps * 8)) sheet
+    yes-short = too-short n m s ws a b taken sheet true yes (yesBytes n m s ws a b) steps refl bytes-long
+
+    -- OUR YES SHEET, written by the passes into a part as long as it
+    pub yes-full : (differ : a ≡ b → ⊥) (blank cs lks part : List ℕ) (k : ℕ) → steps * 8 ≤ length sheet → length blank ≡ steps * 8
+        → Ran n m true (In a b) (free n) (linesOf s) blank (finished (linesOf s) (counted s ws) n m) cs lks part k
+        → Answers n m s ws a b taken sheet (answer.Follows k) (part ++ drop (steps * 8) sheet)
+    unfolding yesBytes
+    yes-full differ blank cs lks part k room long ran = go (held cs lks (In a b)) refl
+      where
+        go : (t : Bool) → held cs lks (In a b) ≡ t → Answers n m s ws a b taken sheet (answer.Follows k) (part ++ drop (steps * 8) sheet)
+        go true h =
+            let e = end-held n m s ws a b taken differ blank cs lks part k ran h .1 in
+            let same : length (e .0) ≡ steps = sym (length-reverse (e .0)) ∙ ap length (sym (e .1)) ∙ sym many in
+            let full : 8 * length (e .0) ≡ length blank = omega arith in
+            let rest : drop (8 * length (e .0)) blank ≡ [] = drop-of-length-le blank {i = 8 * length (e .0)} (omega arith) in
+            let bytes : part ≡ yesBytes n m s ws a b =
+            e .3 .bytes ∙ with-steps blank (e .0) (omega arith) ∙ ap (λ (l : List ℕ). flatten (map stepBytes (reverse (e .0))) ++ l) rest ∙ append-nil (flatten (map stepBytes (reverse (e .0))))
+            ∙ ap (λ (l : List Step). flatten (map stepBytes l)) (sym (e .1)) in
+            let count : k ≡ steps = e .3 .counts ∙ same in
+            rw count (long-enough n m s ws a b taken sheet true yes part steps bytes (ap length bytes ∙ bytes-long) room)
+        go false h = never yes (end-not n m s ws a b taken differ blank cs lks part k ran h .0)
+
+  -- OUR NO SHEET, written from the rows
+  pub no-sheet : (differ : a ≡ b → ⊥) (blank cs lks blank′ : List ℕ) (k : ℕ) → Ran n m true (In a b) (free n) (linesOf s) blank (finished (linesOf s) (counted s ws) n m) cs lks blank′ k → held cs lks (In a b) ≡ false
+      → {r : SheetAnswer} {after : List ℕ} → r ≡ sheetAnswer false (n * (1 + m)) (leb (n * (1 + m) * 8) (length sheet)) → after ≡ sheetOut r (rowsBytes n (n * (1 + m)) cs lks) sheet
+      → (n * (1 + m) * 8 ≤ length sheet → (i : ℕ) → i < n * (1 + m) → rowIn n cs lks i < 2 ^ 64) → Answers n m s ws a b taken sheet r after
+  unfolding noBytes rowsBytes
+  no-sheet differ blank cs lks blank′ k ran h {r} {after} e f words = go (decLt (length sheet) (n * (1 + m) * 8))
+    where
+      q : Asked n m s ws a b c
+      q = question n m s ws a b taken
+
+      end : (follows n m s ws a b ≡ false) × Agree n m (free n) (linesOf s) blank (finished (linesOf s) (counted s ws) n m) cs lks blank′ k
+      end = end-not n m s ws a b taken differ blank cs lks blank′ k ran h
+
+      ours-long : length (noBytes n m s ws) ≡ n * (1 + m) * 8
+      ours-long = no-length n m s ws ∙ omega (arith, ours.rows-length (linesOf s) (counted s ws) n m)
+
+      go : Dec (length sheet < n * (1 + m) * 8) → Answers n m s ws a b taken sheet r after
+      go (yes l) =
+          let d : r ≡ answer.NoRoom (n * (1 + m) * 8) = e ∙ rw (lt-leb (n * (1 + m) * 8) (length sheet) l) (ap answer.NoRoom (mul-comm 8 (n * (1 + m)))) in
+          let g : after ≡ sheet = f ∙ rw d in
+          rw (d, g) (too-short n m s ws a b taken sheet false (end .0) (noBytes n m s ws) (n * (1 + m)) refl ours-long l)
+      go (no l) =
+          let room : n * (1 + m) * 8 ≤ length sheet = omega arith in
+          let d : r ≡ answer.Not (n * (1 + m)) = e ∙ rw (le-leb (n * (1 + m) * 8) (length sheet) room) in
+          let same : flatten (map wordBytes (listed (n * (1 + m)) 0 (rowIn n cs lks))) ≡ noBytes n m s ws =
+          ap (λ (l : List ℕ). flatten (map wordBytes l)) (our-rows n m (linesOf s) (counted s ws) blank cs lks blank′ k (q .pack .n-some) (q .pack .n-most) (end .1) (words room) (q .pack .m-most)) in
+          let g : after ≡ noBytes n m s ws ++ drop (n * (1 + m) * 8) sheet = f ∙ rw (d, same, ours-long) in
+          rw (d, g) (long-enough n m s ws a b taken sheet false (end .0) (noBytes n m s ws) (n * (1 + m)) refl ours-long room)

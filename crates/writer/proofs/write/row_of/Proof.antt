@@ -1,0 +1,73 @@
+use Rattle.writer.proofs.WriteLaws.{div-less}
+use borrow.Author.Tests.{lt-ltb, le-ltb}
+use native.Mathlib.Omega.{arith}
+use native.Mathlib.Nat.{mod-lt}
+use Prim.Native.Nat.{_-_, _/_, _%_, _<_}
+-- `engine::write::row_of` meets its contract.
+use borrow.Author.Needs.{needs}
+use Rattle.writer.proofs.write.row_of.Statement.{statement}
+use Rattle.writer.proofs.write.row_of.Tie as tie
+
+-- past the concept rows: below 8 roles, and below n things
+role : (c : tie.Else1) → (c .before .args .i - c .before .args .n) / c .before .args .n < 8
+role c = div-less (c .before .args .i) (c .before .args .n) (c .before .pre .0) (c .before .pre .2) (c .if1 .left)
+
+thing : (c : tie.Else1) → (c .before .args .i - c .before .args .n) % c .before .args .n < c .before .args .n
+thing c = mod-lt (c .before .args .i - c .before .args .n) (c .before .pre .0)
+
+mul-word : tie.Need-mul-word
+mul-word c = search needs
+
+element-copy-out-word : tie.Need-element-copy-out-word
+element-copy-out-word c = search needs
+
+word-requires : tie.Need-word-requires
+word-requires c κs = search needs
+
+returns : tie.Need-returns
+returns c =
+    let e = lt-ltb _ _ (c .before .before .if1 .taken) in
+    (rw e (c .word .ensures .0), rw (e, ← c .word .ensures .0) (c .word .ensures .1))
+
+div-at : tie.Need-div-at
+div-at c = search needs
+
+mul-at : tie.Need-mul-at
+mul-at c = omega (arith, role c, thing c, c .before .pre .1)
+
+rem-at : tie.Need-rem-at
+rem-at c = search needs
+
+add-at : tie.Need-add-at
+add-at c = omega (arith, role c, thing c, c .before .pre .1)
+
+mul-word-2 : tie.Need-mul-word-2
+mul-word-2 c = omega (arith, role c, thing c, c .before .pre .1)
+
+element-copy-out-word-2 : tie.Need-element-copy-out-word-2
+element-copy-out-word-2 c = omega (arith, role c, thing c, c .before .pre .1)
+
+word-requires-2 : tie.Need-word-requires-2
+word-requires-2 c κs = search needs
+
+returns-2 : tie.Need-returns-2
+returns-2 c =
+    let e = le-ltb _ _ (c .before .before .if1 .left) in
+    (rw e (c .word2 .ensures .0), rw (e, ← c .word2 .ensures .0) (c .word2 .ensures .1))
+
+pub row-of-spec : {M : Type 1} → statement M
+row-of-spec =
+    tie.close
+    (tie.spec
+    mul-word
+    element-copy-out-word
+    word-requires
+    returns
+    div-at
+    mul-at
+    rem-at
+    add-at
+    mul-word-2
+    element-copy-out-word-2
+    word-requires-2
+    returns-2)

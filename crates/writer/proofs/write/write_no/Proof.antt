@@ -1,0 +1,66 @@
+use Rattle.writer.specs.Inner.{rowsBytes}
+use lib.ListN.{drop}
+use mathlib.Core.List.{_++_}
+use Rattle.writer.proofs.WriteLaws.{rows-length}
+use Rattle.writer.specs.declared.write.SheetAnswer.the-variants.{NoRoom}
+use Rattle.no.proofs.NoLaws.{rows-few}
+use borrow.Author.Tests.{le-leb, lt-leb}
+use native.Mathlib.Omega.{arith}
+use native.Mathlib.Nat.{mul-comm, mul-le-mul-left}
+use Prim.Native.Nat.{ℕ, _+_, _*_}
+use mathlib.Core.Path.{refl, sym, ap, _∙_}
+-- `engine::write::write_no` meets its contract.
+use borrow.Author.Needs.{needs}
+use Rattle.writer.proofs.write.write_no.Statement.{statement}
+use Rattle.writer.proofs.write.write_no.Tie as tie
+
+add-rows : tie.Need-add-rows
+add-rows c = search needs
+
+mul-rows : tie.Need-mul-rows
+mul-rows c = omega (arith, rows-few (c .before .args .m) (c .before .args .n) (c .before .pre .2) (c .before .pre .1))
+
+mul-need : tie.Need-mul-need
+mul-need c = omega (arith, rows-few (c .before .args .m) (c .before .args .n) (c .before .pre .2) (c .before .pre .1))
+
+cast-t10 : tie.Need-cast-t10
+cast-t10 c = omega (arith, rows-few (c .before .before .args .m) (c .before .before .args .n) (c .before .before .pre .2) (c .before .before .pre .1))
+
+returns : tie.Need-returns
+returns c =
+    (rw (lt-leb _ _ (c .if1 .taken)) (ap NoRoom (mul-comm (c .before .before .args .n * (1 + c .before .before .args .m)) 8)), (refl, λ h. absurd (omega arith)))
+
+write-rows-requires : tie.Need-write-rows-requires
+write-rows-requires c κs =
+    let a = c .before .before .before .args in
+    let pre = c .before .before .before .pre in
+    (pre .0, pre .1, omega (arith, mul-le-mul-left {m = 1 + a .m} {n = 9} (a .n) (omega arith)), c .before .if1 .left)
+
+cast-t14 : tie.Need-cast-t14
+cast-t14 c = omega (arith, rows-few (c .before .before .before .before .before .before .args .m) (c .before .before .before .before .before .before .args .n) (c .before .before .before .before .before .before .pre .2) (c .before .before .before .before .before .before .pre .1))
+
+same-length : tie.Need-same-length
+same-length c = search needs
+
+returns-2 : tie.Need-returns-2
+returns-2 c =
+    let a = c .before .before .before .before .before .before .args in
+    let w = c .before .before .write-rows .ensures in
+    let long = rows-length (a .n) (a .concepts .now) (a .links .now) (a .n * (1 + a .m)) in (
+      rw (le-leb _ _ (c .before .before .before .before .if1 .left)),
+      (w .0 ∙ ap (λ (k : ℕ). rowsBytes (a .n) (a .n * (1 + a .m)) (a .concepts .now) (a .links .now) ++ drop k (a .sheet .now)) (sym long), λ h. w .1),
+    )
+
+pub write-no-spec : {M : Type 1} → statement M
+write-no-spec =
+    tie.close
+    (tie.spec
+    add-rows
+    mul-rows
+    mul-need
+    cast-t10
+    returns
+    write-rows-requires
+    cast-t14
+    same-length
+    returns-2)

@@ -1,0 +1,42 @@
+use Rattle.writer.specs.Sheet.{askSheet, writtenSheet}
+use borrow.Author.Needs.{needs}
+use mathlib.Core.Path.{sym, _∙_}
+-- `engine::write::write_sheet` meets its contract: the question's refusal, or what is written.
+use Rattle.writer.proofs.write.write_sheet.Statement.{statement}
+use Rattle.writer.proofs.write.write_sheet.Tie as tie
+
+check-question-requires : tie.Need-check-question-requires
+check-question-requires c κs = search needs
+
+enum-known-checked : tie.Need-enum-known-checked
+enum-known-checked c = search needs
+
+enum-known-checked-2 : tie.Need-enum-known-checked-2
+enum-known-checked-2 c = search needs
+
+write-taken-requires : tie.Need-write-taken-requires
+write-taken-requires c κs = sym (c .before .before .before .before .check-question .ensures) ∙ c .before .before .checked2 .given .1
+
+returns : tie.Need-returns
+unfolding askSheet writtenSheet
+returns c =
+    let e = sym (c .before .before .before .check-question .ensures) ∙ c .before .checked .given .1 in
+    (rw e, rw e)
+
+same-length : tie.Need-same-length
+same-length c = c .before .before .write-taken .kept .1 .1 .1 .1 .1 .1 .1 .0
+
+returns-2 : tie.Need-returns-2
+returns-2 c = c .before .before .write-taken .ensures
+
+pub write-sheet-spec : {M : Type 1} → statement M
+write-sheet-spec =
+    tie.close
+    (tie.spec
+    check-question-requires
+    enum-known-checked
+    enum-known-checked-2
+    write-taken-requires
+    returns
+    same-length
+    returns-2)

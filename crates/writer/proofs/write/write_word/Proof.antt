@@ -1,0 +1,102 @@
+use Rattle.writer.specs.Sheet.{wordBytes}
+use Rattle.bits.specs.Lists.{listed}
+use lib.ListN.{length-set, drop-of-length-le}
+use lib.Seq.{sets-eq}
+use native.Mathlib.Omega.{arith}
+use native.Mathlib.Nat.{div-one}
+use Prim.Native.Nat.{ℕ, _/_, _%_}
+use mathlib.Core.Path.{_≡_, ap, _∙_}
+use mathlib.Core.List.{List, [], _∷_, _++_}
+-- `engine::write::write_word` meets its contract: eight stores into a part of eight bytes.
+use borrow.Author.Needs.{needs}
+use Rattle.writer.proofs.write.write_word.Statement.{statement}
+use Rattle.writer.proofs.write.write_word.Tie as tie
+
+-- the bytes as the code has them
+bytes : ℕ → List ℕ
+bytes w =
+    w % 256 ∷ w / 256 % 256 ∷ w / 65536 % 256 ∷ w / 16777216 % 256 ∷ w / 4294967296 % 256 ∷ w / 1099511627776 % 256 ∷ w / 281474976710656 % 256 ∷ w / 72057594037927936 % 256 ∷ []
+
+bytes-are : (w : ℕ) → bytes w ≡ wordBytes w
+unfolding bytes wordBytes listed
+bytes-are w = rw div-one
+
+cast-part : tie.Need-cast-part
+cast-part c = search needs
+
+slice-write-part : tie.Need-slice-write-part
+slice-write-part c = search needs
+
+cast-part-2 : tie.Need-cast-part-2
+cast-part-2 c = search needs
+
+slice-write-part-2 : tie.Need-slice-write-part-2
+slice-write-part-2 c = search needs
+
+cast-part-3 : tie.Need-cast-part-3
+cast-part-3 c = search needs
+
+slice-write-part-3 : tie.Need-slice-write-part-3
+slice-write-part-3 c = search needs
+
+cast-part-4 : tie.Need-cast-part-4
+cast-part-4 c = search needs
+
+slice-write-part-4 : tie.Need-slice-write-part-4
+slice-write-part-4 c = search needs
+
+cast-part-5 : tie.Need-cast-part-5
+cast-part-5 c = search needs
+
+slice-write-part-5 : tie.Need-slice-write-part-5
+slice-write-part-5 c = simp length-set (omega arith)
+
+cast-part-6 : tie.Need-cast-part-6
+cast-part-6 c = search needs
+
+slice-write-part-6 : tie.Need-slice-write-part-6
+slice-write-part-6 c = simp length-set (omega arith)
+
+cast-part-7 : tie.Need-cast-part-7
+cast-part-7 c = search needs
+
+slice-write-part-7 : tie.Need-slice-write-part-7
+slice-write-part-7 c = simp length-set (omega arith)
+
+cast-part-8 : tie.Need-cast-part-8
+cast-part-8 c = search needs
+
+slice-write-part-8 : tie.Need-slice-write-part-8
+slice-write-part-8 c = simp length-set (omega arith)
+
+same-length : tie.Need-same-length
+same-length c = search needs
+
+returns : tie.Need-returns
+unfolding bytes
+returns c =
+    let a = c .args in
+    sets-eq (bytes (a .w)) (a .part .now) 0 (omega arith) ∙ ap (λ (l : List ℕ). bytes (a .w) ++ l) (drop-of-length-le (a .part .now) {i = 8} (omega arith)) ∙ bytes-are (a .w)
+
+pub write-word-spec : {M : Type 1} → statement M
+write-word-spec =
+    tie.close
+    (tie.spec
+    cast-part
+    slice-write-part
+    cast-part-2
+    slice-write-part-2
+    cast-part-3
+    slice-write-part-3
+    cast-part-4
+    slice-write-part-4
+    cast-part-5
+    slice-write-part-5
+    cast-part-6
+    slice-write-part-6
+    cast-part-7
+    slice-write-part-7
+    cast-part-8
+    slice-write-part-8
+    same-length
+    returns)

@@ -1,0 +1,3 @@
+-- Our sheets: what the writer answers, and the lent sheet afterwards.
+pub mod Sheet
+pub mod Inner

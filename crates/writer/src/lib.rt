@@ -1,0 +1,2 @@
+// The writer of our sheets.
+pub mod write;
