@@ -10,14 +10,14 @@ use crate::lines::refusal_line;
 use crate::lines::refused_line;
 use engine::verdict::VerdictAnswer;
 use engine::verdict::verdict;
-use writer::write::SheetAnswer;
-use writer::write::write_sheet;
 use marks::change::cut_marks;
 use pack::check::Checked;
 use pack::check::check_pack;
 use reasons::module::module_for;
 use reasons::set::SetAnswer;
 use reasons::set::printed_set;
+use writer::write::SheetAnswer;
+use writer::write::write_sheet;
 
 // The steps or rows of our sheet: what a sheet of no bytes would need. A refusal is not asked about: the verdict came first.
 fn sheet_parts<'a>(

@@ -6,8 +6,8 @@ use native.Mathlib.Decide.{ℕ-discrete, decLt}
 use native.Mathlib.Nat.{pow-suc}
 use native.Mathlib.Omega.{arith}
 use lib.Bits.{or-lt}
-use lib.Pow.{pow-pos, pow-mono}
 use lib.Dec.{eqb, ltb}
+use lib.Pow.{pow-pos, pow-mono}
 use borrow.Author.Tests.{eq-eqb, ne-eqb, lt-ltb, le-ltb}
 use Rattle.bits.specs.Bit.{has, withBit, row}
 use Rattle.bits.proofs.Truth.{and-false, and-yes, or-false}

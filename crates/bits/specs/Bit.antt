@@ -1,6 +1,6 @@
 -- Bit j of a word, the word with bit j set, and the word of a set of bits.
-use Prim.Native.Nat.{ℕ, zero, suc, _/_, _%_, _^_}
 use mathlib.Core.Bool.{Bool, cond}
+use Prim.Native.Nat.{ℕ, zero, suc, _/_, _%_, _^_}
 use lib.Bits.{bitOr}
 use lib.Dec.{eqb}
 

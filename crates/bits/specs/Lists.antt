@@ -1,6 +1,6 @@
 -- Lists by a rule.
-use Prim.Native.Nat.{ℕ, zero, suc, _+_}
 use mathlib.Core.List.{List, [], _∷_}
+use Prim.Native.Nat.{ℕ, zero, suc, _+_}
 
 -- f i, f (i + 1), and so on: c of them
 unfoldable pub listed : {A : Type 0} → ℕ → ℕ → (ℕ → A) → List A

@@ -1,6 +1,6 @@
 -- Sets of numbers, a yes or no for each: the one search, the one count and the two tests that all definitions use.
-use Prim.Native.Nat.{ℕ, zero, suc, _+_}
 use mathlib.Core.Bool.{Bool, true, false, cond, _&&_, _||_}
+use Prim.Native.Nat.{ℕ, zero, suc, _+_}
 
 -- the lowest of the c numbers from i on that is in p, or i + c where none is
 unfoldable pub lowest : (ℕ → Bool) → ℕ → ℕ → ℕ

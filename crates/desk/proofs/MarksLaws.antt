@@ -9,28 +9,28 @@ use lib.ListN.{length, getD, take, drop, length-append, length-drop, drop-of-len
 use lib.Seq.{take-suc, take-all, length-take-le, ext-getD}
 use borrow.Author.Tests.{eq-eqb}
 use borrow.Rule.Slice.PartMut.{putMid, post-is}
+use Rattle.bits.specs.Lists.{listed}
+use Rattle.bits.proofs.ListLaws.{listed-length, listed-at}
+use Rattle.marks.specs.Marks.{marked, markCount, marksOf}
+use Rattle.marks.proofs.WordLaws.{marks-length, marks-small}
 use Rattle.pack.specs.declared.check.Checked.{Checked}
 use Rattle.pack.specs.declared.check.Checked.the-variants.{Refused, Count}
 use Rattle.pack.specs.Answers.{checkedNumber, checkedValue}
 use Rattle.pack.specs.Bytes.{wordIn, part, wordsIn, marksIn}
-use Rattle.bits.specs.Lists.{listed}
-use Rattle.marks.specs.Marks.{marked, markCount, marksOf}
 use Rattle.pack.specs.Question.{counted, Taken}
 use Rattle.pack.specs.World.{Follows}
 use Rattle.pack.specs.Record.{linesOf}
-use Rattle.bits.proofs.ListLaws.{listed-length, listed-at}
 use Rattle.writer.specs.Sheet.{wordBytes}
 use Rattle.writer.proofs.BytesLaws.{parts-length, parts-all, parts-on, word-length, word-in, with-part}
-use Rattle.reasons.specs.Reach.{moduleOf}
-use Rattle.reasons.specs.Module.{moduleMarks, moduleOut, askModule, writtenModule}
-use Rattle.reasons.proofs.ModuleLaws.{MarksModule, module-written, module-right, module-length}
 use Rattle.reasons.specs.declared.set.SetAnswer.{SetAnswer}
 use Rattle.reasons.specs.declared.set.SetAnswer.the-variants as sets
+use Rattle.reasons.specs.Reach.{moduleOf}
+use Rattle.reasons.specs.Module.{moduleMarks, moduleOut, askModule, writtenModule}
 use Rattle.reasons.specs.Printed.{IsPrinted, printed}
 use Rattle.reasons.specs.Set.{setNumber, setValue, setMarks, setOut, askSet, writtenSet}
+use Rattle.reasons.proofs.ModuleLaws.{MarksModule, module-written, module-right, module-length}
 use Rattle.reasons.proofs.SetLaws.{set-length}
 use Rattle.reasons.proofs.SetRight.{set-found, set-printed}
-use Rattle.marks.proofs.WordLaws.{marks-length, marks-small}
 use Rattle.desk.specs.Desk.{deskCode, wordsBytes, askModuleC, moduleCode, moduleBytes, setCode, setBytes}
 
 -- the bytes of the first j words, and what stands after them

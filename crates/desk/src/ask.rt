@@ -8,10 +8,10 @@ use crate::code::sheet_code;
 use crate::code::unread_code;
 use crate::code::verdict_code;
 use engine::verdict::verdict;
-use writer::write::write_sheet;
 use pack::bytes::read_marks;
 use pack::check::check_pack;
 use pack::question::check_question;
+use writer::write::write_sheet;
 
 // The pack check for C.
 #[no_mangle]

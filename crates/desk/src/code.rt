@@ -8,11 +8,11 @@ ghost use Rattle.engine.specs.Answers.{verdictNumber, verdictValue};
 ghost use Rattle.writer.specs.Sheet.{sheetNumber};
 ghost use Rattle.desk.specs.Desk.{deskCode, sheetValueC};
 use engine::verdict::VerdictAnswer;
-use writer::write::SheetAnswer;
 use pack::check::Checked;
 use pack::check::refusal_number;
 use pack::check::refusal_place;
 use pack::question::check_question;
+use writer::write::SheetAnswer;
 
 // The table's number in the low byte, and the value above it.
 pub fn desk_code(number: u32, value: u32) -> u64

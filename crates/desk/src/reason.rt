@@ -9,7 +9,6 @@ ghost use Rattle.reasons.specs.Set.{setNumber, setValue, setOut};
 ghost use Rattle.desk.specs.Desk.{deskCode, wordsBytes, moduleCode, moduleBytes, setCode, setBytes};
 use crate::code::desk_code;
 use crate::code::unread_code;
-use writer::write::write_word;
 use pack::bytes::read_marks;
 use pack::check::Checked;
 use pack::check::refusal_number;
@@ -17,6 +16,7 @@ use pack::check::refusal_place;
 use reasons::module::module_for;
 use reasons::set::SetAnswer;
 use reasons::set::printed_set;
+use writer::write::write_word;
 
 // The 16 words into the 128 bytes of out marks, each into the part that starts at 8 times its index.
 fn write_marks(words: &[u64; 16], out: &mut [u8])

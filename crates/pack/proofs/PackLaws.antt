@@ -18,9 +18,6 @@ use Rattle.pack.specs.Record.{keepsAt, recordCount}
 use Rattle.pack.specs.Pack.{sizesFit, lengthFits, lowestBroken, checkRecords, checkPack}
 
 module _ (n m : ℕ) (s : List ℕ) where
-  broken : ℕ → Bool
-  broken i = not (keepsAt n m s i)
-
   -- the search from record i on, as the code goes
   abbrev pub brokenFrom : ℕ → ℕ
   brokenFrom i = lowest (λ j. not (keepsAt n m s j)) i (recordCount s - i)
@@ -72,9 +69,9 @@ module _ (n m : ℕ) (s : List ℕ) where
   answer C true true false e f g h₁ h₂ h₃ h₄ = h₄ refl refl refl
 
   -- THE COUNT IS GIVEN exactly when every rule is kept
-  pub counted : {k : ℕ} → checkPack n m s ≡ Count k → Accepted k
+  pub accepted : {k : ℕ} → checkPack n m s ≡ Count k → Accepted k
   unfolding checkPack checkRecords
-  counted {k} e =
+  accepted {k} e =
       answer (λ r. r ≡ Count k → Accepted k) (sizesFit n m) (lengthFits s) (ltb (lowestBroken n m s) (recordCount s)) refl refl refl
       (λ p g. let z : _≡_ {A = ℕ} 0 1 = cc in absurd (omega arith))
       (λ p g. let z : _≡_ {A = ℕ} 0 1 = cc in absurd (omega arith))
@@ -95,9 +92,9 @@ module _ (n m : ℕ) (s : List ℕ) where
       })
       e
 
-  pub counts : {k : ℕ} → Accepted k → checkPack n m s ≡ Count k
+  pub accepts : {k : ℕ} → Accepted k → checkPack n m s ≡ Count k
   unfolding checkPack checkRecords
-  counts {k} a =
+  accepts {k} a =
       let none : recordCount s ≡ lowestBroken n m s =
       lowest-at (λ j. not (keepsAt n m s j))
       (record {

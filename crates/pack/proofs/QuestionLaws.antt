@@ -8,14 +8,14 @@ use lib.Dec.{ltb}
 use lib.ListN.{length}
 use borrow.Author.Tests.{ltb-true, lt-ltb}
 use Rattle.bits.proofs.Truth.{and-true, never}
+use Rattle.marks.specs.Marks.{marksFit, marked}
+use Rattle.marks.proofs.MarkLaws.{Fit, fit, fits}
 use Rattle.pack.specs.declared.check.Refusal.the-variants.{Marks, Goal}
 use Rattle.pack.specs.declared.check.Checked.{Checked}
 use Rattle.pack.specs.declared.check.Checked.the-variants.{Refused, Count}
-use Rattle.marks.specs.Marks.{marksFit, marked}
 use Rattle.pack.specs.Pack.{checkPack}
 use Rattle.pack.specs.Question.{goalFits, afterPack, checkQuestion}
-use Rattle.pack.proofs.PackLaws.{Accepted, counted, counts}
-use Rattle.marks.proofs.MarkLaws.{Fit, fit, fits}
+use Rattle.pack.proofs.PackLaws.{Accepted, accepted, accepts}
 
 pub record Asked (n m : ℕ) (s ws : List ℕ) (a b k : ℕ) : Type 0 where
   pub pack : Accepted n m s k
@@ -34,7 +34,7 @@ asked n m s ws a b {k} = after (checkPack n m s) refl
         let p = and-true (ltb a n) (ltb b n) g in
         rw (← same)
         (record {
-          pack = counted n m s e;
+          pack = accepted n m s e;
           marks = fit ws f;
           goalA = ltb-true a n (p .0);
           goalB = ltb-true b n (p .1);
@@ -54,7 +54,7 @@ pub asks : (n m : ℕ) (s ws : List ℕ) (a b : ℕ) {k : ℕ} → Asked n m s w
 unfolding checkQuestion
 asks n m s ws a b {k} q =
     let most : k ≤ 1024 = omega (arith, q .pack .count, q .pack .size) in
-    rw (counts n m s (q .pack), fits ws most (q .marks), lt-ltb a n (q .goalA), lt-ltb b n (q .goalB))
+    rw (accepts n m s (q .pack), fits ws most (q .marks), lt-ltb a n (q .goalA), lt-ltb b n (q .goalB))
 
 -- so it is taken with fewer marks too
 pub asks-fewer : (n m : ℕ) (s ws : List ℕ) (a b : ℕ) {k : ℕ} → checkQuestion n m s ws a b ≡ Count k → (ws′ : List ℕ) → length ws′ ≡ 16 → ((i : ℕ) → marked ws′ i ≡ true → marked ws i ≡ true) → checkQuestion n m s ws′ a b ≡ Count k

@@ -1,5 +1,5 @@
 -- Laws of records and lines: a record that keeps its rules has a valid line; a counted pack is a list of valid lines.
-use mathlib.Core.Path.{_≡_, refl, ap, _∙_}
+use mathlib.Core.Path.{_≡_, refl, sym, ap, _∙_}
 use mathlib.Core.Bool.{Bool, true, false, cond, _&&_}
 use mathlib.Core.List.{List}
 use Prim.Native.Nat.{ℕ, _<_}
@@ -9,12 +9,12 @@ use lib.Dec.{eqb, ltb}
 use lib.ListN.{length, getD}
 use borrow.Author.Tests.{ltb-true}
 use Rattle.bits.proofs.Truth.{and-true, never}
+use Rattle.bits.proofs.ListLaws.{listed-length, listed-at}
 use Rattle.pack.specs.declared.line.Line.{Line}
 use Rattle.pack.specs.declared.line.Line.the-variants.{Under, BothUnder, UnderSome, SomeUnder, RoleUnder, ChainUnder, NoLine}
 use Rattle.pack.specs.World.{lineAt}
 use Rattle.pack.specs.Bytes.{part}
 use Rattle.pack.specs.Record.{lineOf, lineIn, keeps, keepsIn, keepsAt, lineAtPlace, recordCount, linesOf, ValidLine, Valid}
-use Rattle.bits.proofs.ListLaws.{listed-length, listed-at}
 
 -- the lines of a pack are those of its records
 pub lines-length : (s : List ℕ) → length (linesOf s) ≡ recordCount s
@@ -24,6 +24,10 @@ lines-length s = listed-length (lineAtPlace s) (recordCount s) 0
 pub lines-at : (s : List ℕ) (i : ℕ) → i < recordCount s → lineAt (linesOf s) i ≡ lineAtPlace s i
 unfolding linesOf lineAt
 lines-at s i h = listed-at (lineAtPlace s) NoLine (recordCount s) 0 i h ∙ ap (lineAtPlace s) (zero-add i)
+
+-- the line that `line_at` reads
+pub line-read : (s : List ℕ) (i : ℕ) {l : Line} → i < recordCount s → l ≡ lineAtPlace s i → lineAt (linesOf s) i ≡ l
+line-read s i h e = lines-at s i h ∙ sym e
 
 two : {x a y b : ℕ} {t : Bool} → (ltb x a && ltb y b && t) ≡ true → (x < a) × (y < b) × (t ≡ true)
 two {x} {a} {y} {b} {t} h =

@@ -1,7 +1,7 @@
 -- What the pack check answers.
-use Prim.Native.Nat.{ℕ, _%_}
-use mathlib.Core.List.{List}
 use mathlib.Core.Bool.{Bool, cond, not, _&&_}
+use mathlib.Core.List.{List}
+use Prim.Native.Nat.{ℕ, _%_}
 use lib.Dec.{ltb, leb, eqb}
 use lib.ListN.{length}
 use Rattle.bits.specs.Sets.{lowest}

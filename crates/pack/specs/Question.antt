@@ -1,13 +1,13 @@
 -- The places that count, and what the question check answers: the pack check, then the marks, then the goal.
-use Prim.Native.Nat.{ℕ}
 use mathlib.Core.Path.{_≡_}
-use mathlib.Core.List.{List}
 use mathlib.Core.Bool.{Bool, cond, _&&_}
+use mathlib.Core.List.{List}
+use Prim.Native.Nat.{ℕ}
 use lib.Dec.{ltb}
+use Rattle.marks.specs.Marks.{marked, marksFit}
 use Rattle.pack.specs.declared.check.Refusal.the-variants.{Marks, Goal}
 use Rattle.pack.specs.declared.check.Checked.{Checked}
 use Rattle.pack.specs.declared.check.Checked.the-variants.{Refused, Count}
-use Rattle.marks.specs.Marks.{marked, marksFit}
 use Rattle.pack.specs.Pack.{checkPack}
 
 -- the places that count in an answer: the marked ones

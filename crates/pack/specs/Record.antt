@@ -1,13 +1,13 @@
 -- A record of 8 bytes: kind, a, b, c and the statement number, which is not read. Its line, and the rules of its fields.
-use Prim.Native.Nat.{ℕ, _/_, _<_}
 use mathlib.Core.Bool.{Bool, false, cond, _&&_}
 use mathlib.Core.List.{List}
+use Prim.Native.Nat.{ℕ, _/_, _<_}
 use lib.Dec.{eqb, ltb}
 use lib.ListN.{length, getD}
+use Rattle.bits.specs.Lists.{listed}
 use Rattle.pack.specs.declared.line.Line.{Line}
 use Rattle.pack.specs.declared.line.Line.the-variants.{Under, BothUnder, UnderSome, SomeUnder, RoleUnder, ChainUnder, NoLine}
 use Rattle.pack.specs.Bytes.{part}
-use Rattle.bits.specs.Lists.{listed}
 use Rattle.pack.specs.World.{lineAt}
 
 -- the line of a kind with fields a, b, c

@@ -9,20 +9,20 @@ use lib.ListN.{length, getD, length-append, List·getD-append}
 use lib.Pow.{pow-pos}
 use lib.Seq.{getD-append-add}
 use Rattle.bits.specs.Bit.{has, row}
+use Rattle.bits.specs.Lists.{listed}
+use Rattle.bits.proofs.ListLaws.{listed-length, listed-at}
+use Rattle.bits.proofs.RowLaws.{row-lt, row-has}
 use Rattle.pack.specs.declared.line.Line.{Line}
 use Rattle.pack.specs.declared.line.Fact.{Fact}
 use Rattle.pack.specs.declared.line.Fact.the-variants.{In, Link}
 use Rattle.pack.specs.World.{World, Is, Obeys}
 use Rattle.pack.specs.Record.{Valid}
-use Rattle.bits.specs.Lists.{listed}
 use Rattle.pack.specs.Rules.{free}
-use Rattle.bits.proofs.ListLaws.{listed-length, listed-at}
 use Rattle.pack.proofs.Soundness.{free-self}
 use Rattle.passes.specs.Passes.{InRange, table, verdict}
 use Rattle.passes.specs.Ours.{ourRows}
 use Rattle.passes.proofs.Exact.{ClosedTable, closed-agrees, table-obeys}
 use Rattle.passes.proofs.PassLaws.{table-exact}
-use Rattle.bits.proofs.RowLaws.{row-lt, row-has}
 
 -- blocks of n numbers, one after the other
 module _ (n : ℕ) (f : ℕ → ℕ → ℕ) where

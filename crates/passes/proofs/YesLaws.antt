@@ -84,27 +84,6 @@ module _ (ls : List Line) (S : ℕ → Bool) (n : ℕ) where
             (known-holds ls n (r .0) (premiseOneOf ls s) ∙ a .first) (known-holds ls n (r .0) (premiseTwoOf ls s) ∙ a .second))),
       )
 
--- the numbers of a usable step are below n, also the zeros
-pub record Small (ls : List Line) (n : ℕ) (s : Step) : Type 0 where
-  pub place-there : s .place < length ls
-  pub x-small : s .x < n
-  pub y-small : s .y < n
-  pub z-small : s .z < n
-
-pub usable-small : (ls : List Line) (S : ℕ → Bool) (n : ℕ) (s : Step) → Usable ls S n s → Small ls n s
-usable-small ls S n s u =
-    let l = lineAt ls (s .place) in
-    record {
-      place-there = u .there;
-      x-small = u .fitsX;
-      y-small = small (usesY l) (s .y) (u .fitsY);
-      z-small = small (usesZ l) (s .z) (u .fitsZ);
-    }
-  where
-    small : (t : Bool) (y : ℕ) → Fits t n y → y < n
-    small true y h = h
-    small false y h = omega (arith, u .fitsX)
-
 -- our steps are the additions up to where the goal is first held
 pub record OurList (ls : List Line) (S : ℕ → Bool) (n m a b : ℕ) : Type 0 where
   pub list : List Step
@@ -149,9 +128,6 @@ module _ (ls : List Line) (S : ℕ → Bool) (n m a b : ℕ) (valid : Valid n m 
 
   pub ours-usable : (i : ℕ) (d : Step) → i < length (ourSteps ls S n m a b) → Usable ls S n (getD (ourSteps ls S n m a b) i d)
   ours-usable i d l = both i d l .0
-
-  pub ours-small : (i : ℕ) (d : Step) → i < length (ourSteps ls S n m a b) → Small ls n (getD (ourSteps ls S n m a b) i d)
-  ours-small i d l = usable-small ls S n (getD (ourSteps ls S n m a b) i d) (ours-usable i d l)
 
   -- OUR STEPS SHOW THE GOAL
   pub ours-known : known ls n (ourSteps ls S n m a b) (In a b) ≡ true

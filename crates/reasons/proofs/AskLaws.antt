@@ -9,6 +9,8 @@ use lib.ListN.{length}
 use Rattle.bits.specs.Sets.{lowest}
 use Rattle.bits.proofs.Truth.{never}
 use Rattle.marks.specs.Marks.{marked, marksOf, cutOut}
+use Rattle.marks.proofs.WordLaws.{marks-length}
+use Rattle.marks.proofs.CutLaws.{cut-marked, cut-fewer}
 use Rattle.pack.specs.Question.{Taken}
 use Rattle.pack.specs.Record.{linesOf}
 use Rattle.pack.specs.World.{Follows}
@@ -16,14 +18,12 @@ use Rattle.pack.proofs.QuestionLaws.{asks-fewer}
 use Rattle.pack.proofs.RecordLaws.{lines-length}
 use Rattle.passes.specs.Passes.{verdict}
 use Rattle.passes.proofs.PassLaws.{decides}
+use Rattle.engine.specs.Verdict.{follows}
 use Rattle.engine.proofs.VerdictLaws.{question, valid}
 use Rattle.reasons.specs.Inner.{Next}
 use Rattle.reasons.specs.Printed.{IsPicked}
 use Rattle.reasons.proofs.PrintedLaws.{follows-more}
 use Rattle.reasons.proofs.HalveLaws.{Rest, halved-start, halved-end, rest-on, rest-next}
-use Rattle.engine.specs.Verdict.{follows}
-use Rattle.marks.proofs.WordLaws.{marks-length}
-use Rattle.marks.proofs.CutLaws.{cut-marked, cut-fewer}
 
 module _ (n m : ℕ) (s ws : List ℕ) (a b : ℕ) (t : Taken n m s ws a b) where
   pub taken-sixteen : length ws ≡ 16

@@ -6,14 +6,14 @@ use Prim.Native.Nat.{ℕ, _+_, _-_, _≤_, _<_}
 use native.Mathlib.Decide.{decLt}
 use native.Mathlib.Omega.{arith}
 use lib.ListN.{length}
-use Rattle.bits.proofs.Truth.{never}
 use Rattle.bits.specs.Sets.{lowest}
+use Rattle.bits.proofs.Truth.{never}
 use Rattle.marks.specs.Marks.{marked, marksOf, cutOut}
 use Rattle.marks.proofs.MarkLaws.{next-lowest}
 use Rattle.marks.proofs.CutLaws.{cut-before, cut-after, cut-gone, cut-fewer, cut-marked}
+use Rattle.marks.proofs.WordLaws.{marks-length}
 use Rattle.reasons.specs.Printed.{Within, IsPicked}
 use Rattle.reasons.specs.Inner.{Between, Next}
-use Rattle.marks.proofs.WordLaws.{marks-length}
 use Rattle.reasons.proofs.PickLaws.{Settled, Cut, cut-settled, cut-picked, kept-settled, settled-picked}
 
 -- the places of a range cut out

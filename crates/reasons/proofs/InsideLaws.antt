@@ -16,8 +16,8 @@ use Rattle.pack.specs.World.{Follows, lineAt}
 use Rattle.pack.specs.Record.{Valid}
 use Rattle.pack.specs.Rules.{premiseOne, premiseTwo, conclusion, premiseOneOf, Derived, given, by, free}
 use Rattle.pack.proofs.Soundness.{derived-follows}
-use Rattle.passes.proofs.PassLaws.{table-holds, decides}
 use Rattle.passes.specs.Passes.{verdict}
+use Rattle.passes.proofs.PassLaws.{table-holds, decides}
 use Rattle.reasons.specs.Printed.{Within, IsMinimal, IsPrinted, printed}
 use Rattle.reasons.specs.Reach.{Name, concept, role, leftNames, rightNames, allIn, moduleIn, IsModule}
 use Rattle.reasons.proofs.PickLaws.{picked-same}

@@ -7,12 +7,13 @@ use native.Mathlib.Decide.{decLt}
 use native.Mathlib.Omega.{arith}
 use lib.ListN.{length}
 use Rattle.bits.proofs.Promises.{no-second}
+use Rattle.marks.specs.Marks.{marked, markCount, marksOf}
+use Rattle.marks.proofs.WordLaws.{marks-length, marked-of, marked-past, marks-alike}
 use Rattle.pack.specs.declared.check.Checked.{Checked}
 use Rattle.pack.specs.declared.check.Checked.the-variants.{Refused, Count}
 use Rattle.pack.specs.declared.check.Refusal.{Refusal}
 use Rattle.pack.specs.declared.line.Line.{Line}
 use Rattle.pack.specs.declared.line.Line.the-variants.{Under, BothUnder, UnderSome, SomeUnder, RoleUnder, ChainUnder, NoLine}
-use Rattle.marks.specs.Marks.{marked, markCount, marksOf}
 use Rattle.pack.specs.Question.{counted}
 use Rattle.pack.specs.Record.{linesOf, ValidLine, Valid}
 use Rattle.pack.specs.World.{lineAt}
@@ -23,7 +24,6 @@ use Rattle.reasons.specs.Reach.{Name, IsReached, moduleIn, IsModule, rea
 use Rattle.reasons.specs.Names.{TakenOf, Unreached}
 use Rattle.reasons.specs.OutMarks.{checkReason}
 use Rattle.reasons.specs.Module.{moduleMarks, moduleAnswer, askModule, writtenModule}
-use Rattle.marks.proofs.WordLaws.{marks-length, marked-of, marked-past, marks-alike}
 use Rattle.reasons.proofs.OutLaws.{reason-taken}
 use Rattle.reasons.proofs.ReachLaws.{module-is, module-one}
 

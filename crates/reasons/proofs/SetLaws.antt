@@ -8,25 +8,25 @@ use native.Mathlib.Omega.{arith}
 use lib.ListN.{length}
 use Rattle.bits.proofs.Truth.{never}
 use Rattle.marks.specs.Marks.{marked, marksOf, cutOut}
+use Rattle.marks.proofs.WordLaws.{marks-length, marked-of, marks-alike}
+use Rattle.marks.proofs.CutLaws.{cut-gone, cut-fewer, cut-marked}
+use Rattle.pack.specs.declared.check.Checked.the-variants as checked
+use Rattle.pack.specs.declared.check.Refusal.{Refusal}
 use Rattle.pack.specs.Question.{counted, Taken}
 use Rattle.pack.specs.Record.{linesOf}
 use Rattle.pack.specs.World.{Follows}
 use Rattle.passes.specs.Passes.{verdict}
+use Rattle.engine.specs.Verdict.{askVerdict}
 use Rattle.engine.proofs.VerdictLaws.{question, valid}
+use Rattle.reasons.specs.declared.set.SetAnswer.the-variants as answer
 use Rattle.reasons.specs.Names.{TakenOf}
 use Rattle.reasons.specs.Printed.{IsPicked, IsPrinted, without, spared, picked, printed}
 use Rattle.reasons.specs.Reach.{IsModule, moduleOf}
 use Rattle.reasons.specs.OutMarks.{checkReason}
-use Rattle.reasons.specs.declared.set.SetAnswer.the-variants as answer
 use Rattle.reasons.specs.Set.{setMarks, setAfter, setOut, askSet, writtenSet}
-use Rattle.engine.specs.Verdict.{askVerdict}
-use Rattle.pack.specs.declared.check.Checked.the-variants as checked
-use Rattle.pack.specs.declared.check.Refusal.{Refusal}
-use Rattle.marks.proofs.WordLaws.{marks-length, marked-of, marks-alike}
 use Rattle.reasons.proofs.PickLaws.{without-true}
 use Rattle.reasons.proofs.PrintedLaws.{printed-is, printed-one}
 use Rattle.reasons.proofs.InsideLaws.{inside-true, module-follows, inside-printed}
-use Rattle.marks.proofs.CutLaws.{cut-gone, cut-fewer, cut-marked}
 use Rattle.reasons.proofs.ModuleLaws.{none-past, marks-module, marks-past}
 use Rattle.reasons.proofs.AskLaws.{taken-sixteen, lines-most, fewer-taken}
 

@@ -7,6 +7,7 @@ use native.Mathlib.Omega.{arith}
 use lib.ListN.{length}
 use Rattle.bits.proofs.Promises.{no-second}
 use Rattle.marks.specs.Marks.{marked, markCount}
+use Rattle.marks.proofs.WordLaws.{marked-of}
 use Rattle.pack.specs.declared.check.Checked.the-variants.{Count}
 use Rattle.pack.specs.Question.{counted, Taken}
 use Rattle.pack.specs.Record.{linesOf}
@@ -19,7 +20,6 @@ use Rattle.reasons.specs.declared.set.SetAnswer.the-variants as answer
 use Rattle.reasons.specs.Printed.{IsPrinted, without, printed}
 use Rattle.reasons.specs.OutMarks.{checkReason}
 use Rattle.reasons.specs.Set.{setMarks, askSet, writtenSet}
-use Rattle.marks.proofs.WordLaws.{marked-of}
 use Rattle.reasons.proofs.OutLaws.{reason-asked}
 use Rattle.reasons.proofs.PickLaws.{picked-same}
 use Rattle.reasons.proofs.PrintedLaws.{follows-more, printed-is, printed-needs}

@@ -1,7 +1,7 @@
 -- The question check of a call that is lent out marks.
-use Prim.Native.Nat.{ℕ}
 use mathlib.Core.Bool.{_&&_}
 use mathlib.Core.List.{List}
+use Prim.Native.Nat.{ℕ}
 use lib.Dec.{eqb}
 use Rattle.marks.specs.Marks.{marksFit}
 use Rattle.pack.specs.declared.check.Checked.{Checked}

@@ -1,6 +1,6 @@
 -- What the printed set's call answers, and the out marks afterwards.
-use Prim.Native.Nat.{ℕ}
 use mathlib.Core.List.{List}
+use Prim.Native.Nat.{ℕ}
 use lib.ListN.{length}
 use Rattle.marks.specs.Marks.{markCount, marksOf}
 use Rattle.pack.specs.declared.check.Checked.{Checked}

@@ -1,6 +1,6 @@
 -- What the two C calls return.
-use Prim.Native.Nat.{ℕ}
 use mathlib.Core.List.{List}
+use Prim.Native.Nat.{ℕ}
 use Rattle.pack.specs.Bytes.{marksIn}
 use Rattle.yes.specs.YesSheet.{checkYes}
 use Rattle.no.specs.NoSheet.{checkNo}

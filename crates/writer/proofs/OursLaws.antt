@@ -26,23 +26,23 @@ use Rattle.pack.specs.Record.{linesOf}
 use Rattle.pack.specs.World.{World, Is, Obeys, Follows}
 use Rattle.pack.proofs.RecordLaws.{lines-length}
 use Rattle.yes.specs.declared.check.YesAnswer.the-variants as yes
-use Rattle.no.specs.declared.check.NoAnswer.the-variants as no
 use Rattle.yes.specs.YesSheet.{stepIn, zerosIn, stepsOf, known, goodOver, goodAt, checkYes}
-use Rattle.no.specs.NoSheet.{rowAt, thingsIn, noLengthFits, forbidden, worldOf, checkNo}
 use Rattle.yes.proofs.YesLaws.{yes-accepts}
+use Rattle.no.specs.declared.check.NoAnswer.the-variants as no
+use Rattle.no.specs.NoSheet.{rowAt, thingsIn, noLengthFits, forbidden, worldOf, checkNo}
 use Rattle.no.proofs.NoLaws.{no-accepts}
 use Rattle.sheets.proofs.Verdicts.{never-both}
 use Rattle.passes.specs.Ours.{ourSteps, ourRows}
 use Rattle.passes.proofs.PassLaws.{not-free-most}
-use Rattle.passes.proofs.YesLaws.{ours-good, ours-small, ours-known, ours-most}
+use Rattle.passes.proofs.YesLaws.{ours-good, ours-usable, ours-known, ours-most}
 use Rattle.passes.proofs.NoLaws.{rows-length, rows-small, ourWorld, rows-obey, rows-refute}
 use Rattle.sweep.specs.Writing.{stepBytes}
 use Rattle.engine.specs.declared.verdict.VerdictAnswer.the-variants as verdicts
+use Rattle.engine.specs.Verdict.{follows}
+use Rattle.engine.proofs.VerdictLaws.{question, valid, too-long-never}
 use Rattle.writer.specs.declared.write.SheetAnswer.{SheetAnswer}
 use Rattle.writer.specs.declared.write.SheetAnswer.the-variants as sheets
-use Rattle.engine.specs.Verdict.{follows}
 use Rattle.writer.specs.Sheet.{yesBytes, noBytes, ourSheet, sheetAnswer, sheetAfter, askSheet, sheetOut, writtenSheet}
-use Rattle.engine.proofs.VerdictLaws.{question, valid, too-long-never}
 use Rattle.writer.proofs.BytesLaws.{parts-length, parts-all, zeros-in, step-in, steps-of, rows-of, yes-length, no-length}
 
 -- the world that the bytes of our rows describe is the one of our rows
@@ -109,7 +109,7 @@ module _ (n m : ℕ) (s ws : List ℕ) (a b : ℕ) {k : ℕ} (taken : checkQuest
       let size = question n m s ws a b taken .pack .size in
       let lines = lines-length s in
       let small : (i : ℕ) → i < length ss → getD ss i d .place < 65536 =
-      λ i g. (let p = ours-small ls S n m a b (valid n m s ws a b taken) (question n m s ws a b taken .goalA) h i d g .place-there in omega arith) in
+      λ i g. (let p = ours-usable ls S n m a b (valid n m s ws a b taken) (question n m s ws a b taken .goalA) h i d g .there in omega arith) in
       let all : stepsOf sheet ≡ ss = steps-of ss d small in
       yes-accepts n m s ws a b sheet taken
       (true-and (eqb (length sheet % 8) 0) (leb (length sheet) 524288) (eq-eqb (length sheet % 8) 0 (omega arith)) (le-leb (length sheet) 524288 (omega arith)))

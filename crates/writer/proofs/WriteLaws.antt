@@ -7,14 +7,17 @@ use native.Mathlib.Decide.{decLt}
 use native.Mathlib.Nat.{zero-add, mul-comm, mul-add, mul-one, mod-lt, div-add-mod', div-lt-iff-lt-mul}
 use native.Mathlib.Numerals.{add-one}
 use native.Mathlib.Omega.{arith}
+use lib.Dec.{leb}
 use lib.ListN.{length, getD, drop, length-append, length-drop, length-reverse, drop-of-length-le}
 use lib.Seq.{take-at, drop-append-add, drop-drop, ext-getD}
-use lib.Dec.{leb}
 use borrow.Author.Tests.{le-leb, lt-leb, lt-ltb, le-ltb, eq-eqb}
 use borrow.Rule.Slice.PartMut.{putMid, post-is}
 use Rattle.bits.specs.Bit.{has, row}
+use Rattle.bits.specs.Lists.{listed}
 use Rattle.bits.proofs.BitLaws.{has-high}
 use Rattle.bits.proofs.Truth.{never}
+use Rattle.bits.proofs.RowLaws.{row-only}
+use Rattle.bits.proofs.ListLaws.{listed-length, listed-at, listed-snoc}
 use Rattle.pack.specs.declared.check.Checked.the-variants as checked
 use Rattle.pack.specs.declared.line.Fact.{Fact}
 use Rattle.pack.specs.declared.line.Fact.the-variants.{In, Link}
@@ -28,21 +31,18 @@ use Rattle.tables.specs.Tables.{held, heldIn, heldLink}
 use Rattle.passes.specs.Saturation.{holds}
 use Rattle.passes.specs.Passes.{el, finished, table}
 use Rattle.passes.specs.Ours.{ourSteps, ourRows}
-use Rattle.bits.proofs.RowLaws.{row-only}
 use Rattle.passes.proofs.NoLaws.{row-concepts, row-links}
 use Rattle.passes.proofs.NoLaws as ours
 use Rattle.passes.proofs.StopLaws.{ours-none, goal-free}
 use Rattle.sweep.specs.Inner.{Agree}
 use Rattle.sweep.specs.Writing.{stepBytes}
-use Rattle.bits.specs.Lists.{listed}
-use Rattle.bits.proofs.ListLaws.{listed-length, listed-at, listed-snoc}
+use Rattle.engine.specs.Verdict.{follows}
+use Rattle.engine.specs.Inner.{Ran}
+use Rattle.engine.proofs.VerdictLaws.{question, too-long-never, end-held, end-not}
 use Rattle.writer.specs.declared.write.SheetAnswer.{SheetAnswer}
 use Rattle.writer.specs.declared.write.SheetAnswer.the-variants as answer
 use Rattle.writer.specs.Sheet.{wordBytes, yesBytes, noBytes, ourSheet, sheetAnswer, sheetOut, askSheet, writtenSheet}
-use Rattle.engine.specs.Verdict.{follows}
-use Rattle.engine.specs.Inner.{Ran}
 use Rattle.writer.specs.Inner.{rowIn, rowsBytes}
-use Rattle.engine.proofs.VerdictLaws.{question, too-long-never, end-held, end-not}
 use Rattle.writer.proofs.BytesLaws.{parts-length, parts-more, word-length, with-steps, yes-length, no-length}
 
 module _ (n : ℕ) (cs lks : List ℕ) where

@@ -1,7 +1,7 @@
 -- What inner functions promise to each other: the bytes of rows. No public promise cites this page.
-use Prim.Native.Nat.{ℕ, _+_, _-_, _*_, _/_, _%_}
 use mathlib.Core.Bool.{cond}
 use mathlib.Core.List.{List, map, flatten}
+use Prim.Native.Nat.{ℕ, _+_, _-_, _*_, _/_, _%_}
 use lib.Dec.{ltb}
 use lib.ListN.{getD}
 use Rattle.bits.specs.Lists.{listed}

@@ -1,20 +1,20 @@
 -- What the sheet writer answers, and what the lent sheet holds afterwards.
-use Prim.Native.Nat.{ℕ, _*_, _/_, _%_, _^_}
 use mathlib.Core.Bool.{Bool, cond}
 use mathlib.Core.List.{List, _++_, map, flatten}
+use Prim.Native.Nat.{ℕ, _*_, _/_, _%_, _^_}
 use lib.Dec.{leb}
 use lib.ListN.{length, drop}
+use Rattle.bits.specs.Lists.{listed}
 use Rattle.pack.specs.declared.check.Checked.{Checked}
 use Rattle.pack.specs.declared.check.Checked.the-variants as checked
-use Rattle.bits.specs.Lists.{listed}
 use Rattle.pack.specs.Answers.{refusalNumber}
 use Rattle.pack.specs.Question.{counted, checkQuestion}
 use Rattle.pack.specs.Record.{linesOf}
 use Rattle.passes.specs.Ours.{ourSteps, ourRows}
 use Rattle.sweep.specs.Writing.{stepBytes}
+use Rattle.engine.specs.Verdict.{tooLong, follows}
 use Rattle.writer.specs.declared.write.SheetAnswer.{SheetAnswer}
 use Rattle.writer.specs.declared.write.SheetAnswer.the-variants as answer
-use Rattle.engine.specs.Verdict.{tooLong, follows}
 
 -- a word's 8 bytes, the low one first
 unfoldable pub wordBytes : ℕ → List ℕ

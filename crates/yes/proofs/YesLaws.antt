@@ -14,6 +14,7 @@ use Rattle.bits.specs.Sets.{lowest}
 use Rattle.bits.proofs.Truth.{and-true, or-elim, or-false, or-assoc, not-true, not-false, never}
 use Rattle.bits.proofs.SetLaws.{Lowest, lowest-is, lowest-on, lowest-here, lowest-end, none-lowest}
 use Rattle.bits.proofs.Promises.{no-second}
+use Rattle.bits.proofs.ListLaws.{listed-length, listed-at}
 use Rattle.pack.specs.declared.check.Checked.{Checked}
 use Rattle.pack.specs.declared.check.Checked.the-variants as checked
 use Rattle.pack.specs.declared.line.Line.{Line}
@@ -25,7 +26,6 @@ use Rattle.pack.specs.Rules.{conclusionOf, Derived, given, by, free, sameFact}
 use Rattle.pack.specs.Bytes.{part}
 use Rattle.pack.specs.Record.{linesOf, Valid}
 use Rattle.pack.specs.Question.{counted, checkQuestion}
-use Rattle.bits.proofs.ListLaws.{listed-length, listed-at}
 use Rattle.pack.proofs.RuleLaws.{same-one}
 use Rattle.pack.proofs.Soundness.{derived-follows}
 use Rattle.tables.specs.Tables.{heldIn, held, addedConcepts, addedLinks, startTables}

@@ -1,10 +1,11 @@
 -- A yes sheet: steps of 8 bytes, each good by the steps before it.
-use Prim.Native.Nat.{ℕ, _/_, _%_}
 use mathlib.Core.Bool.{Bool, true, false, cond, not, _&&_, _||_}
 use mathlib.Core.List.{List, [], _∷_}
+use Prim.Native.Nat.{ℕ, _/_, _%_}
 use lib.Dec.{eqb, ltb, leb}
 use lib.ListN.{length, getD, take}
 use Rattle.bits.specs.Sets.{lowest}
+use Rattle.bits.specs.Lists.{listed}
 use Rattle.pack.specs.declared.check.Checked.{Checked}
 use Rattle.pack.specs.declared.check.Checked.the-variants as checked
 use Rattle.pack.specs.declared.line.Fact.{Fact}
@@ -14,7 +15,6 @@ use Rattle.pack.specs.declared.line.Step.{Step}
 use Rattle.pack.specs.World.{lineAt}
 use Rattle.pack.specs.Rules.{premiseOneOf, premiseTwoOf, conclusionOf, usesY, usesZ, free, sameFact}
 use Rattle.pack.specs.Bytes.{littleEndian, part}
-use Rattle.bits.specs.Lists.{listed}
 use Rattle.pack.specs.Record.{linesOf}
 use Rattle.pack.specs.Question.{counted, checkQuestion}
 use Rattle.yes.specs.declared.check.YesAnswer.{YesAnswer}

@@ -1,7 +1,7 @@
-use Rattle.bench.proofs.InputLaws.{input-fits}
+-- `answer`: it promises nothing but a safe run; the pack that is asked about lies within the input (`input-fits`).
 use mathlib.Core.Path.{sym, _∙_}
--- `bench::answer` meets its contract: the pack that the question is about lies within the input.
 use borrow.Author.Needs.{needs}
+use Rattle.bench.proofs.InputLaws.{input-fits}
 use Rattle.bench.proofs.answer.Statement.{statement}
 use Rattle.bench.proofs.answer.Tie as tie
 

@@ -1,4 +1,4 @@
--- `bits::column_with` meets its contract: bit y comes in where the row has bit a.
+-- `column_with`: where the row has bit a, the column with bit y (`with_bit`); else the column as it was.
 use mathlib.Core.Path.{sym, _∙_}
 use borrow.Author.Needs.{needs}
 use Rattle.bits.proofs.column_with.Statement.{statement}

@@ -1,4 +1,4 @@
--- `either`: w | v, bit by bit.
+-- `either`: w | v, bit by bit: the bits of either word (`has-or`).
 use Rattle.bits.proofs.BitLaws.{has-or}
 use Rattle.bits.proofs.either.Statement.{statement}
 use Rattle.bits.proofs.either.Tie as tie

@@ -1,4 +1,4 @@
--- `lacking`: w & !v, bit by bit.
+-- `lacking`: w & !v, bit by bit: the bits of w that v lacks (`lacking-bits`).
 use native.Mathlib.Omega.{arith}
 use Rattle.bits.proofs.BitLaws.{lacking-bits}
 use Rattle.bits.proofs.lacking.Statement.{statement}

@@ -1,4 +1,4 @@
--- `bits::next_bit` meets its contract: the lowest set bit of the word shifted down.
+-- `next_bit`: the lowest set bit of the shifted word, by trailing zeros; 64 where that word is 0; past 63 j itself.
 use mathlib.Core.Path.{sym}
 use Prim.Native.Nat.{_+_, _-_, _/_, _^_}
 use native.Mathlib.Omega.{arith}

@@ -1,4 +1,4 @@
--- `bits::test_bit` meets its contract.
+-- `test_bit`: the word shifted down by j mod 64, its lowest bit compared with 1: `has` as it is defined.
 use borrow.Author.Needs.{needs}
 use Rattle.bits.specs.Bit.{has}
 use Rattle.bits.proofs.test_bit.Statement.{statement}

@@ -1,4 +1,4 @@
--- `bits::with_bit` meets its contract.
+-- `with_bit`: 1 shifted up by less than 64 is that power of two (`one-shl`), and `withBit` is the or with it.
 use mathlib.Core.Path.{ap}
 use Prim.Native.Nat.{_%_}
 use native.Mathlib.Omega.{arith}

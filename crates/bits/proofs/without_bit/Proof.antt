@@ -1,4 +1,4 @@
--- `without_bit`: the bits of w that the word with bit j alone lacks.
+-- `without_bit`: the bits of w that the word with bit j alone lacks (`bit-off`).
 use borrow.Author.Needs.{needs}
 use Rattle.bits.proofs.BitLaws.{bit-off}
 use Rattle.bits.proofs.without_bit.Statement.{statement}

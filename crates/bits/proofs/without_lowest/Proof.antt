@@ -1,4 +1,4 @@
--- `bits::without_lowest` meets its contract.
+-- `without_lowest`: bit by bit, w & (w - 1) lacks the lowest set bit alone (`without`); 0 has none (`without-none`).
 use borrow.Author.Needs.{needs}
 use Rattle.bits.proofs.BitLaws.{without, without-none}
 use Rattle.bits.proofs.without_lowest.Statement.{statement}

@@ -1,7 +1,7 @@
-use Rattle.bench.proofs.InputLaws.{too-long, too-short, last-eight}
+-- `read_input`: by its length, too long or too short; else by its last 8 bytes, the question record (`last-eight`).
 use native.Mathlib.Omega.{arith}
--- `bench::input::read_input` meets its contract: by its length, then by its last 8 bytes.
 use borrow.Author.Needs.{needs}
+use Rattle.bench.proofs.InputLaws.{too-long, too-short, last-eight}
 use Rattle.bench.proofs.input.read_input.Statement.{statement}
 use Rattle.bench.proofs.input.read_input.Tie as tie
 

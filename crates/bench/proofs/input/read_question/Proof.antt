@@ -1,6 +1,6 @@
-use Rattle.bench.proofs.InputLaws.{not-0, not-5, not-6, not-7, all-zero}
--- `bench::input::read_question` meets its contract: byte by byte.
+-- `read_question`: byte by byte: one of the four not zero refuses; with all four zero it is read (`all-zero`).
 use borrow.Author.Needs.{needs}
+use Rattle.bench.proofs.InputLaws.{not-0, not-5, not-6, not-7, all-zero}
 use Rattle.bench.proofs.input.read_question.Statement.{statement}
 use Rattle.bench.proofs.input.read_question.Tie as tie
 

@@ -1,8 +1,9 @@
+-- `list_line`: it promises a safe run that ends, and no more: i goes up from marked place to marked place
+-- (`next-lowest`).
+use Prim.Native.Nat.{_-_}
+use native.Mathlib.Omega.{arith}
 use borrow.Author.Needs.{needs}
 use Rattle.marks.proofs.MarkLaws.{next-lowest}
-use native.Mathlib.Omega.{arith}
-use Prim.Native.Nat.{_-_}
--- `bench::lines::list_line` meets its contract.
 use Rattle.bench.proofs.lines.list_line.Statement.{statement}
 use Rattle.bench.proofs.lines.list_line.Tie as tie
 

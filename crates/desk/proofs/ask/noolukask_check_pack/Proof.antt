@@ -1,6 +1,6 @@
-use Rattle.desk.specs.Desk.{packCode}
--- `desk::noolukask_check_pack` meets its contract.
+-- `noolukask_check_pack`: the code of what `check_pack` answers, as `packCode` has it.
 use borrow.Author.Needs.{needs}
+use Rattle.desk.specs.Desk.{packCode}
 use Rattle.desk.proofs.ask.noolukask_check_pack.Statement.{statement}
 use Rattle.desk.proofs.ask.noolukask_check_pack.Tie as tie
 

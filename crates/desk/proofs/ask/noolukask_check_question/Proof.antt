@@ -1,4 +1,4 @@
--- `noolukask_check_question`: without 128 bytes the code of no words (`question-unread`); else the check's answer, encoded.
+-- `noolukask_check_question`: 128 bytes of marks are 16 words, and others are none; then the code of the answer.
 use borrow.Author.Needs.{needs}
 use borrow.Author.Tests.{eq-eqb}
 use Rattle.desk.specs.Desk.{questionCode}

@@ -1,4 +1,4 @@
--- `noolukask_verdict`: without 128 bytes the code of no words (`verdict-unread`); else the verdict's answer, encoded.
+-- `noolukask_verdict`: 128 bytes of marks are 16 words, and others are none; then the code of the verdict.
 use borrow.Author.Needs.{needs}
 use borrow.Author.Tests.{eq-eqb}
 use Rattle.desk.specs.Desk.{verdictCode}

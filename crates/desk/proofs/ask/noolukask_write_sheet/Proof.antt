@@ -1,4 +1,4 @@
--- `noolukask_write_sheet`: without 128 bytes the code of no words (`sheet-unread`); else the writer's answer, encoded.
+-- `noolukask_write_sheet`: 128 bytes of marks are 16 words, and others none; the sheet is as `write_sheet` leaves it.
 use borrow.Author.Needs.{needs}
 use borrow.Author.Tests.{eq-eqb}
 use Rattle.desk.specs.Desk.{sheetCode}

@@ -1,4 +1,4 @@
--- `desk::checked_code` meets its contract, answer by answer.
+-- `checked_code`: answer by answer: a refusal gives its number and its place, a count gives 0 and itself.
 use borrow.Author.Needs.{needs}
 use Rattle.desk.proofs.code.checked_code.Statement.{statement}
 use Rattle.desk.proofs.code.checked_code.Tie as tie

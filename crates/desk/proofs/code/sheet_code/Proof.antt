@@ -1,4 +1,4 @@
--- `desk::sheet_code` meets its contract, answer by answer.
+-- `sheet_code`: answer by answer: a refusal goes to `desk_code`; steps or rows, with their sort, go to `parts_code`.
 use native.Mathlib.Omega.{arith}
 use borrow.Author.Needs.{needs}
 use Rattle.desk.proofs.code.sheet_code.Statement.{statement}

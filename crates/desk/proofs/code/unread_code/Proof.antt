@@ -1,4 +1,4 @@
--- `desk::unread_code` meets its contract.
+-- `unread_code`: the code of what the question check answers where there are no words for marks.
 use borrow.Author.Needs.{needs}
 use Rattle.desk.proofs.code.unread_code.Statement.{statement}
 use Rattle.desk.proofs.code.unread_code.Tie as tie

@@ -1,4 +1,4 @@
--- `desk::verdict_code` meets its contract, answer by answer.
+-- `verdict_code`: answer by answer: its number and its value in the table, as `desk_code` joins them.
 use borrow.Author.Needs.{needs}
 use Rattle.desk.proofs.code.verdict_code.Statement.{statement}
 use Rattle.desk.proofs.code.verdict_code.Tie as tie

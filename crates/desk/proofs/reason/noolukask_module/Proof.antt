@@ -1,9 +1,10 @@
+-- `noolukask_module`: marks in or out that are not 128 bytes are refused (`module-unread`); else the module is found
+-- in 16 words of its own and put into the bytes out (`module-read`).
+use mathlib.Core.Path.{refl, sym, _∙_}
+use lib.ListN.{length}
+use borrow.Author.Needs.{needs}
 use Rattle.desk.proofs.UnreadLaws.{read-both, module-unread}
 use Rattle.desk.proofs.MarksLaws.{module-read}
-use lib.ListN.{length}
-use mathlib.Core.Path.{refl, sym, _∙_}
--- `desk::noolukask_module` meets its contract.
-use borrow.Author.Needs.{needs}
 use Rattle.desk.proofs.reason.noolukask_module.Statement.{statement}
 use Rattle.desk.proofs.reason.noolukask_module.Tie as tie
 

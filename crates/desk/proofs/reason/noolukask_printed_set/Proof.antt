@@ -1,9 +1,10 @@
+-- `noolukask_printed_set`: marks in or out that are not 128 bytes are refused (`set-unread`); else the set is found
+-- in 16 words of its own and put into the bytes out (`set-read`).
+use mathlib.Core.Path.{refl, sym, _∙_}
+use lib.ListN.{length}
+use borrow.Author.Needs.{needs}
 use Rattle.desk.proofs.UnreadLaws.{read-both, set-unread}
 use Rattle.desk.proofs.MarksLaws.{set-read}
-use lib.ListN.{length}
-use mathlib.Core.Path.{refl, sym, _∙_}
--- `desk::noolukask_printed_set` meets its contract.
-use borrow.Author.Needs.{needs}
 use Rattle.desk.proofs.reason.noolukask_printed_set.Statement.{statement}
 use Rattle.desk.proofs.reason.noolukask_printed_set.Tie as tie
 

@@ -1,4 +1,4 @@
--- `desk::set_code` meets its contract, answer by answer.
+-- `set_code`: answer by answer: a refusal leaves the bytes as they are; a count writes the words (`write_marks`).
 use borrow.Author.Needs.{needs}
 use Rattle.desk.proofs.reason.set_code.Statement.{statement}
 use Rattle.desk.proofs.reason.set_code.Tie as tie

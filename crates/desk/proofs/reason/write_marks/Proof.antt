@@ -1,11 +1,11 @@
-use Rattle.desk.proofs.MarksLaws.{Filled, filled-length, filled-more, filled-end}
-use Rattle.desk.specs.Desk.{wordsBytes}
-use lib.ListN.{length, length-take, length-drop}
-use native.Mathlib.Omega.{arith}
-use mathlib.Core.List.{flatten}
+-- `write_marks`: before word j the bytes of the words before it are in, the rest as it was (`Filled`, `filled-more`).
 use mathlib.Core.Path.{_≡_, refl, sym, ap, _∙_}
+use mathlib.Core.List.{flatten}
 use Prim.Native.Nat.{_-_, _≤_}
--- `desk::write_marks` meets its contract: word by word.
+use native.Mathlib.Omega.{arith}
+use lib.ListN.{length, length-take, length-drop}
+use Rattle.desk.specs.Desk.{wordsBytes}
+use Rattle.desk.proofs.MarksLaws.{Filled, filled-length, filled-more, filled-end}
 use Rattle.desk.proofs.reason.write_marks.Statement.{statement}
 use Rattle.desk.proofs.reason.write_marks.Tie as tie
 

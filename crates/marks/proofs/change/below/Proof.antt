@@ -1,10 +1,10 @@
-use Rattle.marks.proofs.CutLaws.{below-none, below-all, below-some}
-use Rattle.bits.proofs.BitLaws.{one-shl}
-use lib.Pow.{pow-pos}
-use native.Mathlib.Omega.{arith}
+-- `below`: none of the 64 places is below i (`below-none`), or all are (`below-all`), or the lowest (`below-some`).
 use Prim.Native.Nat.{_-_}
--- `reasons::cut::below` meets its contract.
+use native.Mathlib.Omega.{arith}
+use lib.Pow.{pow-pos}
 use borrow.Author.Needs.{needs}
+use Rattle.bits.proofs.BitLaws.{one-shl}
+use Rattle.marks.proofs.CutLaws.{below-none, below-all, below-some}
 use Rattle.marks.proofs.change.below.Statement.{statement}
 use Rattle.marks.proofs.change.below.Tie as tie
 

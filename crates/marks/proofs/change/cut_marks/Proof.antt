@@ -1,4 +1,4 @@
--- `cut_marks`: words before j are filled with those of the marks with the range cut out (`Filled`); a turn is one `cut_word`.
+-- `cut_marks`: the words before j mark what is left of their places (`Filled`); a turn is one `cut_word`.
 use mathlib.Core.Path.{refl}
 use Prim.Native.Nat.{_-_}
 use native.Mathlib.Omega.{arith}

@@ -1,4 +1,4 @@
--- `marks_without`: words before j are filled with those of the marks but for the others (`Filled`); a turn is one `lacking`.
+-- `marks_without`: the words before j mark what the others do not (`Filled`); a turn is one `lacking`.
 use mathlib.Core.Path.{refl}
 use mathlib.Core.Bool.{not, _&&_}
 use Prim.Native.Nat.{_-_}

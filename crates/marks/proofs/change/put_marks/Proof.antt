@@ -1,11 +1,11 @@
-use lib.ListN.{length, take, getD, length-set}
-use lib.Seq.{take-suc, take-suc-set, take-all}
-use native.Mathlib.Omega.{arith}
-use native.Mathlib.Numerals.{add-one}
+-- `put_marks`: the lent words before k are those given (`take-suc-set`); after 16 all are (`take-all`).
 use mathlib.Core.Path.{_≡_, refl, sym, ap, _∙_}
 use mathlib.Core.List.{List, [], _∷_, _++_}
 use Prim.Native.Nat.{ℕ, _-_, _≤_}
--- `reasons::out::put_marks` meets its contract: word by word.
+use native.Mathlib.Numerals.{add-one}
+use native.Mathlib.Omega.{arith}
+use lib.ListN.{length, take, getD, length-set}
+use lib.Seq.{take-suc, take-suc-set, take-all}
 use Rattle.marks.proofs.change.put_marks.Statement.{statement}
 use Rattle.marks.proofs.change.put_marks.Tie as tie
 

@@ -1,7 +1,7 @@
 -- `unmark`: the word of the place without its bit (`place-off`); past the words nothing is marked (`none-off`).
 use mathlib.Core.Path.{refl}
-use lib.ListN.{length-set}
 use native.Mathlib.Omega.{arith}
+use lib.ListN.{length-set}
 use borrow.Author.Needs.{needs}
 use Rattle.marks.proofs.CutLaws.{place-off, none-off}
 use Rattle.marks.proofs.change.unmark.Statement.{statement}

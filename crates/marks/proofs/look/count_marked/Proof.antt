@@ -1,14 +1,14 @@
-use Rattle.bits.proofs.SetLaws.{count-le}
-use Rattle.bits.specs.Bit.{has}
-use Rattle.marks.proofs.MarkLaws.{count-word}
-use Rattle.marks.specs.Marks.{marked}
-use lib.ListN.{getD}
-use Rattle.bits.specs.Sets.{countTo}
-use borrow.Author.Needs.{needs}
-use native.Mathlib.Omega.{arith}
-use Prim.Native.Nat.{_≤_, _-_, _*_}
+-- `count_marked`: before word j, n counts the marked places below 64 * j; a word adds its set bits (`count-word`).
 use mathlib.Core.Path.{_≡_, refl, ap, _∙_}
--- `pack::marks::count_marked` meets its contract: word by word.
+use Prim.Native.Nat.{_≤_, _-_, _*_}
+use native.Mathlib.Omega.{arith}
+use lib.ListN.{getD}
+use borrow.Author.Needs.{needs}
+use Rattle.bits.specs.Bit.{has}
+use Rattle.bits.specs.Sets.{countTo}
+use Rattle.bits.proofs.SetLaws.{count-le}
+use Rattle.marks.specs.Marks.{marked}
+use Rattle.marks.proofs.MarkLaws.{count-word}
 use Rattle.marks.proofs.look.count_marked.Statement.{statement}
 use Rattle.marks.proofs.look.count_marked.Tie as tie
 

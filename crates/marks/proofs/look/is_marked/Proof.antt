@@ -1,6 +1,6 @@
-use Rattle.marks.specs.Marks.{marked}
--- `pack::marks::is_marked` meets its contract.
+-- `is_marked`: bit i mod 64 of word i div 64, by `mark_word` and `test_bit`: `marked` as it is defined.
 use borrow.Author.Needs.{needs}
+use Rattle.marks.specs.Marks.{marked}
 use Rattle.marks.proofs.look.is_marked.Statement.{statement}
 use Rattle.marks.proofs.look.is_marked.Tie as tie
 

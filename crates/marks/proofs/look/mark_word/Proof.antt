@@ -1,6 +1,6 @@
-use lib.ListN.{List·getD-eq-default}
+-- `mark_word`: past the end the 0 that stands for no word (`List·getD-eq-default`), else the word that is read.
 use mathlib.Core.Path.{sym}
--- `pack::marks::mark_word` meets its contract.
+use lib.ListN.{List·getD-eq-default}
 use borrow.Author.Needs.{needs}
 use Rattle.marks.proofs.look.mark_word.Statement.{statement}
 use Rattle.marks.proofs.look.mark_word.Tie as tie

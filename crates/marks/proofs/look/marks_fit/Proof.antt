@@ -1,9 +1,9 @@
-use Rattle.marks.specs.Marks.{marksFit}
-use borrow.Author.Tests.{ne-eqb}
-use lib.Dec.{leb}
+-- `marks_fit`: other than 16 words do not fit; 16 do where the next marked place from the count on is past 1,023.
 use mathlib.Core.Path.{ap}
--- `pack::marks::marks_fit` meets its contract.
+use lib.Dec.{leb}
 use borrow.Author.Needs.{needs}
+use borrow.Author.Tests.{ne-eqb}
+use Rattle.marks.specs.Marks.{marksFit}
 use Rattle.marks.proofs.look.marks_fit.Statement.{statement}
 use Rattle.marks.proofs.look.marks_fit.Tie as tie
 

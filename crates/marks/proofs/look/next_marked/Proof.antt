@@ -1,13 +1,14 @@
-use Rattle.marks.proofs.MarkLaws.{Clear, word-bounds, clear-word, found-word, none-found}
-use Rattle.bits.proofs.SetLaws.{lowest-at}
-use borrow.Author.Needs.{needs}
+-- `next_marked`: from the start on nothing is marked before i (`Clear`): the word of i has the next marked place
+-- (`found-word`), or i goes to its end (`clear-word`); from 1,024 on there is none (`none-found`).
 use mathlib.Core.Path.{_≡_}
+use Prim.Native.Nat.{_≤_, _-_, _+_, _/_, _%_}
 use native.Mathlib.Omega.{arith}
 use lib.ListN.{getD}
+use borrow.Author.Needs.{needs}
 use Rattle.bits.specs.Bit.{has}
 use Rattle.bits.specs.Sets.{lowest}
-use Prim.Native.Nat.{_≤_, _-_, _+_, _/_, _%_}
--- `pack::marks::next_marked` meets its contract: from the start on nothing is marked before i.
+use Rattle.bits.proofs.SetLaws.{lowest-at}
+use Rattle.marks.proofs.MarkLaws.{Clear, word-bounds, clear-word, found-word, none-found}
 use Rattle.marks.proofs.look.next_marked.Statement.{statement}
 use Rattle.marks.proofs.look.next_marked.Tie as tie
 

@@ -1,7 +1,7 @@
-use Rattle.no.specs.NoSheet.{checkNo}
+-- `check_no`: the question's refusal as it is, or what the sheet gives (`check_no_counted`).
 use mathlib.Core.Path.{sym, _∙_}
--- `sheets::no::check_no` meets its contract: the question's refusal, or what the sheet gives.
 use borrow.Author.Needs.{needs}
+use Rattle.no.specs.NoSheet.{checkNo}
 use Rattle.no.proofs.check.check_no.Statement.{statement}
 use Rattle.no.proofs.check.check_no.Tie as tie
 

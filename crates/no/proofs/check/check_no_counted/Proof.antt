@@ -1,10 +1,10 @@
-use Rattle.no.proofs.NoLaws.{whole-rows}
-use Rattle.no.specs.NoSheet.{checkNo}
-use Rattle.pack.proofs.QuestionLaws.{asked}
-use borrow.Author.Tests.{le-leb, lt-leb, ne-eqb, eq-eqb}
+-- `check_no_counted`: test by test: LENGTH three times; one that fits is that of the rows of k things (`whole-rows`).
 use native.Mathlib.Omega.{arith}
--- `sheets::no::check_no_counted` meets its contract, test by test.
 use borrow.Author.Needs.{needs}
+use borrow.Author.Tests.{le-leb, lt-leb, ne-eqb, eq-eqb}
+use Rattle.pack.proofs.QuestionLaws.{asked}
+use Rattle.no.specs.NoSheet.{checkNo}
+use Rattle.no.proofs.NoLaws.{whole-rows}
 use Rattle.no.proofs.check.check_no_counted.Statement.{statement}
 use Rattle.no.proofs.check.check_no_counted.Tie as tie
 

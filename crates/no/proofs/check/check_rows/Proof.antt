@@ -1,12 +1,12 @@
-use Rattle.no.proofs.NoLaws.{rows-few, things-fit, lines-fit, all-rows}
-use Rattle.no.specs.NoSheet.{checkRows}
+-- `check_rows`: ROW at the lowest forbidden row; with none (`all-rows`) the lines fit the rows (`lines-fit`).
+use native.Mathlib.Omega.{arith}
+use borrow.Author.Needs.{needs}
+use borrow.Author.Tests.{lt-ltb, le-ltb}
+use Rattle.pack.specs.Record.{linesOf}
 use Rattle.pack.proofs.RecordLaws.{lines-valid}
 use Rattle.pack.proofs.QuestionLaws.{asked}
-use Rattle.pack.specs.Record.{linesOf}
-use borrow.Author.Tests.{lt-ltb, le-ltb}
-use native.Mathlib.Omega.{arith}
--- `sheets::no::check_rows` meets its contract.
-use borrow.Author.Needs.{needs}
+use Rattle.no.specs.NoSheet.{checkRows}
+use Rattle.no.proofs.NoLaws.{rows-few, things-fit, lines-fit, all-rows}
 use Rattle.no.proofs.check.check_rows.Statement.{statement}
 use Rattle.no.proofs.check.check_rows.Tie as tie
 

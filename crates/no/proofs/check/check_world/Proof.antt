@@ -1,9 +1,9 @@
-use Rattle.no.specs.NoSheet.{checkWorld}
-use Rattle.pack.proofs.RecordLaws.{lines-length}
-use borrow.Author.Tests.{lt-ltb, le-ltb}
+-- `check_world`: test by test: BROKEN below the record count, else `world_refutes` gives ACCEPTED or NOT SHOWN.
 use mathlib.Core.Path.{sym, _∙_}
--- `sheets::no::check_world` meets its contract.
 use borrow.Author.Needs.{needs}
+use borrow.Author.Tests.{lt-ltb, le-ltb}
+use Rattle.pack.proofs.RecordLaws.{lines-length}
+use Rattle.no.specs.NoSheet.{checkWorld}
 use Rattle.no.proofs.check.check_world.Statement.{statement}
 use Rattle.no.proofs.check.check_world.Tie as tie
 

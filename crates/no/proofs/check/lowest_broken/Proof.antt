@@ -1,15 +1,16 @@
-use Rattle.no.specs.NoSheet.{worldOf, lowestBroken}
-use Rattle.pack.proofs.RecordLaws.{lines-length}
+-- `lowest_broken`: what is left of the search from place i on is the whole of it (`lowest-on`); it ends at a broken
+-- place (`lowest-here`) or past the records (`lowest-end`).
+use mathlib.Core.Path.{_≡_, sym, ap, _∙_}
+use mathlib.Core.Bool.{not, _&&_}
+use Prim.Native.Nat.{_≤_, _-_}
+use native.Mathlib.Omega.{arith}
+use Rattle.bits.specs.Sets.{lowest}
+use Rattle.bits.proofs.SetLaws.{lowest-on, lowest-here, lowest-end}
 use Rattle.pack.specs.Question.{counted}
 use Rattle.pack.specs.Record.{linesOf}
 use Rattle.pack.specs.World.{lineAt, obeys}
-use Rattle.bits.proofs.SetLaws.{lowest-on, lowest-here, lowest-end}
-use Rattle.bits.specs.Sets.{lowest}
-use native.Mathlib.Omega.{arith}
-use Prim.Native.Nat.{_≤_, _-_}
-use mathlib.Core.Bool.{not, _&&_}
-use mathlib.Core.Path.{_≡_, sym, ap, _∙_}
--- `sheets::no::lowest_broken` meets its contract: what is left of the search is the whole of it.
+use Rattle.pack.proofs.RecordLaws.{lines-length}
+use Rattle.no.specs.NoSheet.{worldOf, lowestBroken}
 use Rattle.no.proofs.check.lowest_broken.Statement.{statement}
 use Rattle.no.proofs.check.lowest_broken.Tie as tie
 

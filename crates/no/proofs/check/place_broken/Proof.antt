@@ -1,11 +1,11 @@
-use Rattle.no.specs.NoSheet.{worldOf}
-use Rattle.pack.proofs.RecordLaws.{lines-length, lines-at}
-use Rattle.pack.specs.World.{obeys}
-use native.Mathlib.Omega.{arith}
-use mathlib.Core.Bool.{not}
+-- `place_broken`: a place that is not marked is not broken; at another the line is that of the list (`lines-at`).
 use mathlib.Core.Path.{sym, ap, _∙_}
--- `sheets::no::place_broken` meets its contract.
+use mathlib.Core.Bool.{not}
+use native.Mathlib.Omega.{arith}
 use borrow.Author.Needs.{needs}
+use Rattle.pack.specs.World.{obeys}
+use Rattle.pack.proofs.RecordLaws.{lines-length, lines-at}
+use Rattle.no.specs.NoSheet.{worldOf}
 use Rattle.no.proofs.check.place_broken.Statement.{statement}
 use Rattle.no.proofs.check.place_broken.Tie as tie
 

@@ -1,10 +1,11 @@
-use Rattle.no.specs.NoSheet.{forbidden, lowestForbidden}
-use Rattle.bits.proofs.SetLaws.{lowest-on, lowest-here, lowest-end}
-use Rattle.bits.specs.Sets.{lowest}
-use native.Mathlib.Omega.{arith}
-use Prim.Native.Nat.{_≤_, _-_}
+-- `lowest_forbidden`: what is left of the search from row i on is the whole of it (`lowest-on`); it ends at a
+-- forbidden bit (`lowest-here`) or past the rows (`lowest-end`).
 use mathlib.Core.Path.{_≡_, sym, _∙_, ap}
--- `sheets::row::lowest_forbidden` meets its contract: what is left of the search is the whole of it.
+use Prim.Native.Nat.{_≤_, _-_}
+use native.Mathlib.Omega.{arith}
+use Rattle.bits.specs.Sets.{lowest}
+use Rattle.bits.proofs.SetLaws.{lowest-on, lowest-here, lowest-end}
+use Rattle.no.specs.NoSheet.{forbidden, lowestForbidden}
 use Rattle.no.proofs.row.lowest_forbidden.Statement.{statement}
 use Rattle.no.proofs.row.lowest_forbidden.Tie as tie
 

@@ -1,9 +1,9 @@
-use Rattle.no.proofs.RowLaws.{past}
-use lib.Dec.{ltb}
-use Prim.Native.Nat.{ℕ}
+-- `past_limit`: the search from the limit on ends below 64 exactly where some bit from there on is set (`past`).
 use mathlib.Core.Path.{ap, _∙_}
--- `sheets::row::past_limit` meets its contract.
+use Prim.Native.Nat.{ℕ}
+use lib.Dec.{ltb}
 use borrow.Author.Needs.{needs}
+use Rattle.no.proofs.RowLaws.{past}
 use Rattle.no.proofs.row.past_limit.Statement.{statement}
 use Rattle.no.proofs.row.past_limit.Tie as tie
 

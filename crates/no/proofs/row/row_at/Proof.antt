@@ -1,7 +1,7 @@
-use Rattle.no.specs.NoSheet.{rowAt}
-use Rattle.pack.proofs.Parts.{cut}
--- `sheets::row::row_at` meets its contract.
+-- `row_at`: the 8 bytes from 8 times i on are part i (`cut`); `read_word` reads the row there.
 use borrow.Author.Needs.{needs}
+use Rattle.pack.proofs.Parts.{cut}
+use Rattle.no.specs.NoSheet.{rowAt}
 use Rattle.no.proofs.row.row_at.Statement.{statement}
 use Rattle.no.proofs.row.row_at.Tie as tie
 

@@ -1,7 +1,7 @@
-use Rattle.no.specs.NoSheet.{forbidden}
-use borrow.Author.Tests.{lt-ltb, le-ltb}
--- `sheets::row::row_forbidden` meets its contract: the limit is n in the first k rows, and k in the others.
+-- `row_forbidden`: the limit is n in the first k rows, and k in the others; then `past_limit` of the row.
 use borrow.Author.Needs.{needs}
+use borrow.Author.Tests.{lt-ltb, le-ltb}
+use Rattle.no.specs.NoSheet.{forbidden}
 use Rattle.no.proofs.row.row_forbidden.Statement.{statement}
 use Rattle.no.proofs.row.row_forbidden.Tie as tie
 

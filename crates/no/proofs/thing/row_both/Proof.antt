@@ -1,9 +1,9 @@
+-- `row_both`: where bit a1 is not set yes; else what `row_under` says of a2 and b (`both-implied`).
+use mathlib.Core.Path.{sym, _∙_}
+use borrow.Author.Needs.{needs}
+use Rattle.bits.proofs.BitLaws.{low}
 use Rattle.pack.specs.World.{implies}
 use Rattle.no.proofs.RowLaws.{both-implied}
-use Rattle.bits.proofs.BitLaws.{low}
-use mathlib.Core.Path.{sym, _∙_}
--- `sheets::thing::row_both` meets its contract.
-use borrow.Author.Needs.{needs}
 use Rattle.no.proofs.thing.row_both.Statement.{statement}
 use Rattle.no.proofs.thing.row_both.Tie as tie
 

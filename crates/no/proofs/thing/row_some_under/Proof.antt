@@ -1,7 +1,7 @@
-use Rattle.no.proofs.RowLaws.{implied, not-implied}
-use Rattle.bits.proofs.BitLaws.{low}
--- `sheets::thing::row_some_under` meets its contract.
+-- `row_some_under`: where the rows meet it goes by bit b (`implied`); else yes (`not-implied`).
 use borrow.Author.Needs.{needs}
+use Rattle.bits.proofs.BitLaws.{low}
+use Rattle.no.proofs.RowLaws.{implied, not-implied}
 use Rattle.no.proofs.thing.row_some_under.Statement.{statement}
 use Rattle.no.proofs.thing.row_some_under.Tie as tie
 

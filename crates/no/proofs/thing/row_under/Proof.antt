@@ -1,7 +1,7 @@
-use Rattle.no.proofs.RowLaws.{implied, not-implied}
-use Rattle.bits.proofs.BitLaws.{low}
--- `sheets::thing::row_under` meets its contract.
+-- `row_under`: where bit a is set it goes by bit b (`implied`); else yes (`not-implied`).
 use borrow.Author.Needs.{needs}
+use Rattle.bits.proofs.BitLaws.{low}
+use Rattle.no.proofs.RowLaws.{implied, not-implied}
 use Rattle.no.proofs.thing.row_under.Statement.{statement}
 use Rattle.no.proofs.thing.row_under.Tie as tie
 

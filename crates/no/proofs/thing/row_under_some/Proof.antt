@@ -1,7 +1,7 @@
-use Rattle.no.proofs.RowLaws.{implied, not-implied}
-use Rattle.bits.proofs.BitLaws.{low}
--- `sheets::thing::row_under_some` meets its contract.
+-- `row_under_some`: where bit a is set it goes by whether the rows meet (`implied`); else yes (`not-implied`).
 use borrow.Author.Needs.{needs}
+use Rattle.bits.proofs.BitLaws.{low}
+use Rattle.no.proofs.RowLaws.{implied, not-implied}
 use Rattle.no.proofs.thing.row_under_some.Statement.{statement}
 use Rattle.no.proofs.thing.row_under_some.Tie as tie
 

@@ -1,11 +1,12 @@
-use Rattle.no.proofs.WorldRows.{meets-things, inside-things, chain-things}
-use Rattle.no.specs.NoSheet.{rowAt}
-use Rattle.pack.specs.World.{implies, obeysAt}
-use Rattle.bits.specs.Bit.{has}
-use mathlib.Core.Bool.{Bool}
+-- `thing_obeys`: variant by variant, on whole rows: a test of 64 bits says what the world says of its k things
+-- (`meets-things`, `inside-things`, `chain-things`).
 use mathlib.Core.Path.{ap, _∙_}
--- `sheets::thing::thing_obeys` meets its contract, variant by variant.
+use mathlib.Core.Bool.{Bool}
 use borrow.Author.Needs.{needs}
+use Rattle.bits.specs.Bit.{has}
+use Rattle.pack.specs.World.{implies, obeysAt}
+use Rattle.no.specs.NoSheet.{rowAt}
+use Rattle.no.proofs.WorldRows.{meets-things, inside-things, chain-things}
 use Rattle.no.proofs.thing.thing_obeys.Statement.{statement}
 use Rattle.no.proofs.thing.thing_obeys.Tie as tie
 

@@ -1,8 +1,8 @@
-use Rattle.bits.proofs.BitLaws.{low}
-use mathlib.Core.Bool.{not}
+-- `thing_refutes`: where bit a is not set no; else yes where bit b is not set; both are below 64 (`low`).
 use mathlib.Core.Path.{sym, ap, _∙_}
--- `sheets::thing::thing_refutes` meets its contract.
+use mathlib.Core.Bool.{not}
 use borrow.Author.Needs.{needs}
+use Rattle.bits.proofs.BitLaws.{low}
 use Rattle.no.proofs.thing.thing_refutes.Statement.{statement}
 use Rattle.no.proofs.thing.thing_refutes.Tie as tie
 

@@ -1,12 +1,12 @@
-use Rattle.no.specs.NoSheet.{worldOf}
-use Rattle.pack.specs.World.{obeysAt, obeys}
-use Rattle.bits.proofs.SetLaws.{true-every, every-false}
-use borrow.Author.Count.{below-more}
-use native.Mathlib.Omega.{arith}
-use Prim.Native.Nat.{ℕ, _≤_, _<_, _-_}
-use mathlib.Core.Bool.{true}
+-- `world_obeys`: every thing before x obeys; one that does not makes it no (`every-false`), else yes (`true-every`).
 use mathlib.Core.Path.{_≡_, sym, _∙_}
--- `sheets::thing::world_obeys` meets its contract: every thing passed obeys.
+use mathlib.Core.Bool.{true}
+use Prim.Native.Nat.{ℕ, _≤_, _<_, _-_}
+use native.Mathlib.Omega.{arith}
+use borrow.Author.Count.{below-more}
+use Rattle.bits.proofs.SetLaws.{true-every, every-false}
+use Rattle.pack.specs.World.{obeysAt, obeys}
+use Rattle.no.specs.NoSheet.{worldOf}
 use Rattle.no.proofs.thing.world_obeys.Statement.{statement}
 use Rattle.no.proofs.thing.world_obeys.Tie as tie
 

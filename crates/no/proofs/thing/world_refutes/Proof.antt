@@ -1,12 +1,12 @@
-use Rattle.no.specs.NoSheet.{rowAt, refutes}
-use Rattle.bits.proofs.SetLaws.{true-some, some-false}
-use Rattle.bits.specs.Bit.{has}
-use borrow.Author.Count.{below-more}
-use native.Mathlib.Omega.{arith}
-use Prim.Native.Nat.{ℕ, _≤_, _<_, _-_}
-use mathlib.Core.Bool.{false, not, _&&_}
+-- `world_refutes`: no thing before x refutes; one that does makes it yes (`true-some`), else no (`some-false`).
 use mathlib.Core.Path.{_≡_, sym, _∙_}
--- `sheets::thing::world_refutes` meets its contract: no thing passed refutes.
+use mathlib.Core.Bool.{false, not, _&&_}
+use Prim.Native.Nat.{ℕ, _≤_, _<_, _-_}
+use native.Mathlib.Omega.{arith}
+use borrow.Author.Count.{below-more}
+use Rattle.bits.specs.Bit.{has}
+use Rattle.bits.proofs.SetLaws.{true-some, some-false}
+use Rattle.no.specs.NoSheet.{rowAt, refutes}
 use Rattle.no.proofs.thing.world_refutes.Statement.{statement}
 use Rattle.no.proofs.thing.world_refutes.Tie as tie
 

@@ -1,12 +1,12 @@
-use Rattle.pack.proofs.Parts.{cut}
-use Rattle.bits.proofs.ListLaws.{fill-on, fill-end}
-use Rattle.pack.specs.Bytes.{wordsIn, wordIn, part}
-use Rattle.bits.specs.Lists.{listed}
-use lib.ListN.{length, take, length-take, length-drop, length-set}
-use native.Mathlib.Omega.{arith}
+-- `read_marks`: before word j the words before it are those of the bytes (`fill-on`); 16 are all (`fill-end`).
 use mathlib.Core.Path.{_≡_, refl}
 use Prim.Native.Nat.{_≤_, _-_}
--- `pack::bytes::read_marks` meets its contract: word by word.
+use native.Mathlib.Omega.{arith}
+use lib.ListN.{length, take, length-take, length-drop, length-set}
+use Rattle.bits.specs.Lists.{listed}
+use Rattle.bits.proofs.ListLaws.{fill-on, fill-end}
+use Rattle.pack.specs.Bytes.{wordsIn, wordIn, part}
+use Rattle.pack.proofs.Parts.{cut}
 use Rattle.pack.proofs.bytes.read_marks.Statement.{statement}
 use Rattle.pack.proofs.bytes.read_marks.Tie as tie
 

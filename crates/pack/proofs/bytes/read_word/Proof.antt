@@ -1,7 +1,7 @@
-use Rattle.pack.specs.Bytes.{littleEndian}
+-- `read_word`: bytes to pairs, pairs to fours, fours to the word: the sum of `littleEndian`, by arithmetic.
 use native.Mathlib.Omega.{arith}
--- `pack::bytes::read_word` meets its contract.
 use borrow.Author.Needs.{needs}
+use Rattle.pack.specs.Bytes.{littleEndian}
 use Rattle.pack.proofs.bytes.read_word.Statement.{statement}
 use Rattle.pack.proofs.bytes.read_word.Tie as tie
 

@@ -1,7 +1,7 @@
-use Rattle.pack.specs.Pack.{checkPack}
-use borrow.Author.Tests.{le-leb, lt-leb, ne-eqb}
--- `pack::check::check_pack` meets its contract, test by test.
+-- `check_pack`: test by test: SIZES three times, PACK twice, then what `check_records` gives.
 use borrow.Author.Needs.{needs}
+use borrow.Author.Tests.{le-leb, lt-leb, ne-eqb}
+use Rattle.pack.specs.Pack.{checkPack}
 use Rattle.pack.proofs.check.check_pack.Statement.{statement}
 use Rattle.pack.proofs.check.check_pack.Tie as tie
 

@@ -1,11 +1,12 @@
-use Rattle.pack.proofs.PackLaws.{brokenFrom, broken-on, broken-here, broken-none}
+-- `check_records`: the search from record i on gives what the whole search gives: a record that keeps its rules is
+-- gone by (`broken-on`), another ends it (`broken-here`), and past the last there is none (`broken-none`).
+use mathlib.Core.Path.{_≡_, refl, sym, _∙_}
+use Prim.Native.Nat.{_≤_, _-_}
+use native.Mathlib.Nat.{sub-zero}
+use native.Mathlib.Omega.{arith}
 use Rattle.pack.specs.Pack.{lowestBroken}
 use Rattle.pack.specs.Record.{recordCount}
-use native.Mathlib.Omega.{arith}
-use native.Mathlib.Nat.{sub-zero}
-use Prim.Native.Nat.{_≤_, _-_}
-use mathlib.Core.Path.{_≡_, refl, sym, _∙_}
--- `pack::check::check_records` meets its contract: what is left of the search is the whole of it.
+use Rattle.pack.proofs.PackLaws.{brokenFrom, broken-on, broken-here, broken-none}
 use Rattle.pack.proofs.check.check_records.Statement.{statement}
 use Rattle.pack.proofs.check.check_records.Tie as tie
 

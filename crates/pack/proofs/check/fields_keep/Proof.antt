@@ -1,5 +1,5 @@
+-- `fields_keep`: kind by kind: kinds 1 to 6 get their line of the rules; any other kind is none of them and gets no.
 use borrow.Author.Tests.{ne-eqb}
--- `pack::check::fields_keep` meets its contract, kind by kind.
 use Rattle.pack.proofs.check.fields_keep.Statement.{statement}
 use Rattle.pack.proofs.check.fields_keep.Tie as tie
 

@@ -1,6 +1,6 @@
-use Rattle.pack.proofs.Parts.{cut}
--- `pack::check::place_keeps` meets its contract.
+-- `place_keeps`: the 8 bytes from 8 times the place on are the part of that place (`cut`); `record_keeps` tests it.
 use borrow.Author.Needs.{needs}
+use Rattle.pack.proofs.Parts.{cut}
 use Rattle.pack.proofs.check.place_keeps.Statement.{statement}
 use Rattle.pack.proofs.check.place_keeps.Tie as tie
 

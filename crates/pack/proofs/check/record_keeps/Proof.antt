@@ -1,6 +1,6 @@
-use Rattle.pack.specs.Record.{keepsIn}
--- `pack::check::record_keeps` meets its contract.
+-- `record_keeps`: the first four bytes of the part, as `keepsIn` takes them, go to `fields_keep`.
 use borrow.Author.Needs.{needs}
+use Rattle.pack.specs.Record.{keepsIn}
 use Rattle.pack.proofs.check.record_keeps.Statement.{statement}
 use Rattle.pack.proofs.check.record_keeps.Tie as tie
 

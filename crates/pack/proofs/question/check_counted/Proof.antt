@@ -1,5 +1,5 @@
+-- `check_counted`: test by test: marks that do not fit are MARKS, then a goal that does not is GOAL, else the count.
 use mathlib.Core.Path.{sym, _∙_}
--- `pack::question::check_counted` meets its contract, test by test.
 use borrow.Author.Needs.{needs}
 use Rattle.pack.proofs.question.check_counted.Statement.{statement}
 use Rattle.pack.proofs.question.check_counted.Tie as tie

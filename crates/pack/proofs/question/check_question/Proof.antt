@@ -1,7 +1,7 @@
-use Rattle.pack.specs.Question.{checkQuestion}
+-- `check_question`: the pack's refusal as it is, or what the marks and the goal give (`check_counted`).
 use mathlib.Core.Path.{sym, _∙_}
--- `pack::question::check_question` meets its contract: the pack's refusal, or what the marks and the goal give.
 use borrow.Author.Needs.{needs}
+use Rattle.pack.specs.Question.{checkQuestion}
 use Rattle.pack.proofs.question.check_question.Statement.{statement}
 use Rattle.pack.proofs.question.check_question.Tie as tie
 

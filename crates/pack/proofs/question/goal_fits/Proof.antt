@@ -1,5 +1,5 @@
+-- `goal_fits`: an a not below n does not fit; with a below n it goes by b.
 use borrow.Author.Tests.{lt-ltb, le-ltb}
--- `pack::question::goal_fits` meets its contract.
 use Rattle.pack.proofs.question.goal_fits.Statement.{statement}
 use Rattle.pack.proofs.question.goal_fits.Tie as tie
 

@@ -1,7 +1,7 @@
-use Rattle.reasons.proofs.AskLaws.{cut-taken, cut-follows}
+-- `goes_without`: with fewer marks the question is taken (`cut-taken`), and asked of what is left (`cut-follows`).
 use mathlib.Core.Path.{_∙_}
--- `reasons::halve::goes_without` meets its contract.
 use borrow.Author.Needs.{needs}
+use Rattle.reasons.proofs.AskLaws.{cut-taken, cut-follows}
 use Rattle.reasons.proofs.halve.goes_without.Statement.{statement}
 use Rattle.reasons.proofs.halve.goes_without.Tie as tie
 

@@ -1,8 +1,8 @@
-use Rattle.reasons.proofs.AskLaws.{yes-follows, no-follows}
-use native.Mathlib.Omega.{arith}
+-- `half_of`: the middle is inside: the start where all before it can go (`yes-follows`), else the end (`no-follows`).
 use mathlib.Core.Path.{sym, _∙_}
--- `reasons::halve::half_of` meets its contract.
+use native.Mathlib.Omega.{arith}
 use borrow.Author.Needs.{needs}
+use Rattle.reasons.proofs.AskLaws.{yes-follows, no-follows}
 use Rattle.reasons.proofs.halve.half_of.Statement.{statement}
 use Rattle.reasons.proofs.halve.half_of.Tie as tie
 

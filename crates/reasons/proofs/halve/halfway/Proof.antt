@@ -1,12 +1,13 @@
-use borrow.Author.Needs.{needs}
-use Rattle.bits.proofs.SetLaws.{lowest-least}
-use Rattle.marks.proofs.MarkLaws.{next-lowest}
-use Rattle.marks.specs.Marks.{marked}
-use native.Mathlib.Omega.{arith}
+-- `halfway`: half goes on by one marked place while whole, which is marked and ahead, goes on by two; so the next
+-- half is at most whole (`lowest-least`), and below the end.
 use mathlib.Core.Path.{_≡_}
 use mathlib.Core.Bool.{true}
 use Prim.Native.Nat.{_<_, _-_}
--- `reasons::halve::halfway` meets its contract: half goes on by one marked place while whole goes on by two.
+use native.Mathlib.Omega.{arith}
+use borrow.Author.Needs.{needs}
+use Rattle.bits.proofs.SetLaws.{lowest-least}
+use Rattle.marks.specs.Marks.{marked}
+use Rattle.marks.proofs.MarkLaws.{next-lowest}
 use Rattle.reasons.proofs.halve.halfway.Statement.{statement}
 use Rattle.reasons.proofs.halve.halfway.Tie as tie
 

@@ -1,19 +1,19 @@
+-- `next_kept`: all can go, or the range of the next one (`Between`) is halved to one marked place (`between-end`).
+use mathlib.Core.Path.{_≡_, sym, _∙_}
+use Prim.Native.Nat.{_+_, _-_}
+use native.Mathlib.Omega.{arith}
+use lib.ListN.{length}
 use borrow.Author.Needs.{needs}
+use Rattle.bits.specs.Sets.{lowest}
+use Rattle.marks.specs.Marks.{marked}
+use Rattle.marks.proofs.MarkLaws.{next-lowest}
+use Rattle.pack.specs.Record.{linesOf}
+use Rattle.pack.specs.World.{Follows}
+use Rattle.pack.specs.Question.{counted}
+use Rattle.reasons.specs.Inner.{Between}
 use Rattle.reasons.proofs.AskLaws.{yes-follows, no-follows}
 use Rattle.reasons.proofs.HalveLaws.{between-start, between-end}
 use Rattle.reasons.proofs.PrintedLaws.{follows-more}
-use Rattle.marks.proofs.MarkLaws.{next-lowest}
--- `reasons::halve::next_kept` meets its contract: the range of the next kept place is halved until it has one marked place.
-use Rattle.pack.specs.Record.{linesOf}
-use Rattle.pack.specs.World.{Follows}
-use Rattle.marks.specs.Marks.{marked}
-use Rattle.pack.specs.Question.{counted}
-use Rattle.bits.specs.Sets.{lowest}
-use Rattle.reasons.specs.Inner.{Between}
-use native.Mathlib.Omega.{arith}
-use mathlib.Core.Path.{_≡_, sym, _∙_}
-use Prim.Native.Nat.{_+_, _-_}
-use lib.ListN.{length}
 use Rattle.reasons.proofs.halve.next_kept.Statement.{statement}
 use Rattle.reasons.proofs.halve.next_kept.Tie as tie
 

@@ -1,4 +1,5 @@
--- `pick`: what is left is picked up to i (`Picking`); a turn cuts out what goes and keeps the next place.
+-- `pick`: the rest is settled below i (`Picking`): a turn cuts out what can go and keeps the next place
+-- (`pick-next`); with all settled it is the picked set (`pick-end`).
 use mathlib.Core.Path.{sym, ap, _∙_}
 use Prim.Native.Nat.{_-_}
 use native.Mathlib.Omega.{arith}

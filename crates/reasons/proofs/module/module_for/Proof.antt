@@ -1,8 +1,8 @@
+-- `module_for`: the question's refusal, marks out as they were (`module-refused`), or the module (`module-taken`).
+use mathlib.Core.Path.{sym, _∙_}
+use borrow.Author.Needs.{needs}
 use Rattle.reasons.proofs.ModuleLaws.{module-taken, module-refused}
 use Rattle.reasons.proofs.OutLaws.{reason-taken}
-use mathlib.Core.Path.{sym, _∙_}
--- `reasons::module::module_for` meets its contract: the question's refusal, or what is written.
-use borrow.Author.Needs.{needs}
 use Rattle.reasons.proofs.module.module_for.Statement.{statement}
 use Rattle.reasons.proofs.module.module_for.Tie as tie
 

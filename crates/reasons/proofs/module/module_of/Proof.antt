@@ -1,8 +1,8 @@
-use Rattle.reasons.proofs.ModuleLaws.{asked-of, lines-widest, unreached-module}
-use native.Mathlib.Omega.{arith}
+-- `module_of`: the marks but for the records whose left side is not reached are the module's (`unreached-module`).
 use mathlib.Core.Path.{_∙_}
--- `reasons::module::module_of` meets its contract.
+use native.Mathlib.Omega.{arith}
 use borrow.Author.Needs.{needs}
+use Rattle.reasons.proofs.ModuleLaws.{asked-of, lines-widest, unreached-module}
 use Rattle.reasons.proofs.module.module_of.Statement.{statement}
 use Rattle.reasons.proofs.module.module_of.Tie as tie
 

@@ -1,8 +1,8 @@
-use Rattle.pack.specs.declared.check.Checked.the-variants.{Count}
-use Rattle.marks.specs.Marks.{markCount}
+-- `put_module`: what `module_of` finds is what is written, and what is written is what is counted.
 use mathlib.Core.Path.{ap, _∙_}
--- `reasons::module::put_module` meets its contract: what is counted is what was written.
 use borrow.Author.Needs.{needs}
+use Rattle.marks.specs.Marks.{markCount}
+use Rattle.pack.specs.declared.check.Checked.the-variants.{Count}
 use Rattle.reasons.proofs.module.put_module.Statement.{statement}
 use Rattle.reasons.proofs.module.put_module.Tie as tie
 

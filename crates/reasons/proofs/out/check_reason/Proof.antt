@@ -1,6 +1,7 @@
+-- `check_reason`: with 16 words lent it is the question check of the marks, with any other number that of no words.
 use mathlib.Core.Path.{sym, _∙_}
-use Rattle.reasons.proofs.OutLaws.{reason-asked, out-unread}
 use borrow.Author.Needs.{needs}
+use Rattle.reasons.proofs.OutLaws.{reason-asked, out-unread}
 use Rattle.reasons.proofs.out.check_reason.Statement.{statement}
 use Rattle.reasons.proofs.out.check_reason.Tie as tie
 

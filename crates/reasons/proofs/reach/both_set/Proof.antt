@@ -1,5 +1,5 @@
+-- `both_set`: where the first bit is not set no; else it goes by the second.
 use mathlib.Core.Path.{sym, _∙_}
--- `reasons::reach::both_set` meets its contract.
 use borrow.Author.Needs.{needs}
 use Rattle.reasons.proofs.reach.both_set.Statement.{statement}
 use Rattle.reasons.proofs.reach.both_set.Tie as tie

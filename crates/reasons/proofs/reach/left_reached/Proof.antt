@@ -1,9 +1,9 @@
-use native.Mathlib.Omega.{arith}
+-- `left_reached`: variant by variant: the bits of the one or two left-side names; a list ends with yes (`and-yes`).
 use mathlib.Core.Path.{sym, _∙_}
+use native.Mathlib.Omega.{arith}
+use borrow.Author.Needs.{needs}
 use Rattle.bits.proofs.Truth.{and-yes}
 use Rattle.reasons.specs.Reach.{allIn}
--- `reasons::reach::left_reached` meets its contract, variant by variant.
-use borrow.Author.Needs.{needs}
 use Rattle.reasons.proofs.reach.left_reached.Statement.{statement}
 use Rattle.reasons.proofs.reach.left_reached.Tie as tie
 

@@ -1,7 +1,7 @@
-use Rattle.bits.proofs.Truth.{and-yes}
+-- `reach_line`: with its left side reached, the right side comes in and the place goes; else names and marks stay.
 use mathlib.Core.Path.{sym, _∙_}
--- `reasons::reach::reach_line` meets its contract: with its right side, and off the marks that are left.
 use borrow.Author.Needs.{needs}
+use Rattle.bits.proofs.Truth.{and-yes}
 use Rattle.reasons.proofs.reach.reach_line.Statement.{statement}
 use Rattle.reasons.proofs.reach.reach_line.Tie as tie
 

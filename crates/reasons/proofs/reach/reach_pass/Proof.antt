@@ -1,21 +1,22 @@
+-- `reach_pass`: at place i, which waits, the lines before it are done (`Passed`); each place is one `reach_line`
+-- (`passed-next`), and between two that wait there is nothing to do.
+use mathlib.Core.Path.{_≡_, sym, ap, _∙_, subst}
+use mathlib.Core.Bool.{true, not, _&&_}
+use Prim.Native.Nat.{_-_, _<_}
+use native.Mathlib.Omega.{arith}
+use lib.Dec.{eqb}
+use lib.ListN.{length}
 use borrow.Author.Needs.{needs}
+use Rattle.bits.proofs.SetLaws.{Lowest, lowest-is}
+use Rattle.marks.specs.Marks.{marked}
 use Rattle.marks.proofs.MarkLaws.{next-lowest}
-use Rattle.reasons.proofs.NameLaws.{passed-start, passed-next, passed-end}
-use Rattle.reasons.specs.Names.{nameIn, withLine, Passed}
-use Rattle.reasons.specs.Reach.{leftNames, allIn}
-use Rattle.pack.proofs.RecordLaws.{lines-length, lines-at}
 use Rattle.pack.specs.declared.line.Line.{Line}
 use Rattle.pack.specs.Record.{linesOf, ValidLine}
 use Rattle.pack.specs.World.{lineAt}
-use Rattle.marks.specs.Marks.{marked}
-use Rattle.bits.proofs.SetLaws.{Lowest, lowest-is}
-use lib.Dec.{eqb}
-use lib.ListN.{length}
-use native.Mathlib.Omega.{arith}
-use mathlib.Core.Bool.{true, not, _&&_}
-use mathlib.Core.Path.{_≡_, sym, ap, _∙_, subst}
-use Prim.Native.Nat.{_-_, _<_}
--- `reasons::reach::reach_pass` meets its contract: from one record that is left to the next.
+use Rattle.pack.proofs.RecordLaws.{lines-length, line-read}
+use Rattle.reasons.specs.Names.{nameIn, withLine, Passed}
+use Rattle.reasons.specs.Reach.{leftNames, allIn}
+use Rattle.reasons.proofs.NameLaws.{passed-start, passed-next, passed-end}
 use Rattle.reasons.proofs.reach.reach_pass.Statement.{statement}
 use Rattle.reasons.proofs.reach.reach_pass.Tie as tie
 
@@ -39,7 +40,7 @@ line-at-requires c κs = omega arith
 
 -- the place's line; that it is a place
 here : (c : tie.After-line-at Inv-loop μ-loop) → lineAt (linesOf (c .before .before .before .before .before .before .before .args .pack .now)) (c .before .before .loop .i) ≡ c .line-at .result
-here c = lines-at (c .before .before .before .before .before .before .before .args .pack .now) (c .before .before .loop .i) (c .before .loop-test .taken) ∙ sym (c .line-at .ensures)
+here c = line-read _ _ (c .before .loop-test .taken) (c .line-at .ensures)
 
 there : (c : tie.After-line-at Inv-loop μ-loop) → c .before .before .loop .i < length (linesOf (c .before .before .before .before .before .before .before .args .pack .now))
 there c = omega (arith, lines-length (c .before .before .before .before .before .before .before .args .pack .now))

@@ -1,5 +1,5 @@
+-- `same_names`: other concept words are other names; with the same ones it goes by the role words.
 use borrow.Author.Tests.{eq-eqb, ne-eqb}
--- `reasons::reach::same_names` meets its contract.
 use Rattle.reasons.proofs.reach.same_names.Statement.{statement}
 use Rattle.reasons.proofs.reach.same_names.Tie as tie
 

@@ -1,14 +1,15 @@
+-- `unreached`: the names are no more than are reached, and both sides of what waits no longer are there
+-- (`Reaching`); each pass adds a name (`names-rise`) up to one that adds none (`reaching-end`).
+use mathlib.Core.Path.{_≡_, refl, sym, ap, _∙_}
+use Prim.Native.Nat.{_-_, _^_, _<_}
+use native.Mathlib.Omega.{arith}
+use lib.ListN.{length}
 use borrow.Author.Needs.{needs}
-use Rattle.reasons.proofs.NameLaws.{nameCount, count-most, names-same, names-rise, Reaching, reaching-start, reaching-next, reaching-end}
+use Rattle.marks.specs.Marks.{marked}
 use Rattle.marks.proofs.CutLaws.{copy-marked}
 use Rattle.marks.proofs.WordLaws.{marks-length}
 use Rattle.pack.specs.Record.{linesOf}
-use Rattle.marks.specs.Marks.{marked}
-use lib.ListN.{length}
-use native.Mathlib.Omega.{arith}
-use mathlib.Core.Path.{_≡_, refl, sym, ap, _∙_}
-use Prim.Native.Nat.{_-_, _^_, _<_}
--- `reasons::reach::unreached` meets its contract: from one pass to the next, each with more names, up to one that adds none.
+use Rattle.reasons.proofs.NameLaws.{nameCount, count-most, names-same, names-rise, Reaching, reaching-start, reaching-next, reaching-end}
 use Rattle.reasons.proofs.reach.unreached.Statement.{statement}
 use Rattle.reasons.proofs.reach.unreached.Tie as tie
 

@@ -1,9 +1,9 @@
-use native.Mathlib.Nat.{mod-eq-of-lt}
-use Rattle.bits.specs.Bit.{withBit}
+-- `with_concept`: below 64 a bit is the one at its number (`mod-eq-of-lt`); the roles stay.
 use mathlib.Core.Path.{ap, _∙_}
 use Prim.Native.Nat.{ℕ}
--- `reasons::reach::with_concept` meets its contract: below 64 a bit is the one at its number.
+use native.Mathlib.Nat.{mod-eq-of-lt}
 use borrow.Author.Needs.{needs}
+use Rattle.bits.specs.Bit.{withBit}
 use Rattle.reasons.proofs.reach.with_concept.Statement.{statement}
 use Rattle.reasons.proofs.reach.with_concept.Tie as tie
 

@@ -1,5 +1,5 @@
+-- `with_right`: variant by variant: the right-side names come in one by one; a valid line has them below 64.
 use native.Mathlib.Omega.{arith}
--- `reasons::reach::with_right` meets its contract, variant by variant.
 use borrow.Author.Needs.{needs}
 use Rattle.reasons.proofs.reach.with_right.Statement.{statement}
 use Rattle.reasons.proofs.reach.with_right.Tie as tie

@@ -1,8 +1,8 @@
+-- `printed_set`: the question's refusal (`set-refused`), or what the verdict lets be written (`set-asked`).
+use mathlib.Core.Path.{sym, _∙_}
+use borrow.Author.Needs.{needs}
 use Rattle.reasons.proofs.OutLaws.{reason-taken}
 use Rattle.reasons.proofs.SetLaws.{set-refused, set-asked}
-use mathlib.Core.Path.{sym, _∙_}
--- `reasons::set::printed_set` meets its contract: the question's refusal, or what the verdict lets be written.
-use borrow.Author.Needs.{needs}
 use Rattle.reasons.proofs.set.printed_set.Statement.{statement}
 use Rattle.reasons.proofs.set.printed_set.Tie as tie
 

@@ -1,8 +1,8 @@
-use Rattle.reasons.specs.declared.set.SetAnswer.the-variants.{Count}
-use Rattle.marks.specs.Marks.{markCount}
+-- `put_set`: what `set_of` finds is what is written, and what is written is what is counted.
 use mathlib.Core.Path.{ap, _∙_}
--- `reasons::set::put_set` meets its contract: what is counted is what was written.
 use borrow.Author.Needs.{needs}
+use Rattle.marks.specs.Marks.{markCount}
+use Rattle.reasons.specs.declared.set.SetAnswer.the-variants.{Count}
 use Rattle.reasons.proofs.set.put_set.Statement.{statement}
 use Rattle.reasons.proofs.set.put_set.Tie as tie
 

@@ -1,6 +1,7 @@
-use Rattle.reasons.proofs.SetLaws.{same-words, inside-taken, inside-words, inside-follows, inside-set}
--- `reasons::set::set_of` meets its contract: from the module, or nothing.
+-- `set_of`: for a equal to b everything is cut out (`same-words`); else the goal follows from the module
+-- (`inside-follows`), and what is picked from the module is the printed set (`inside-set`).
 use borrow.Author.Needs.{needs}
+use Rattle.reasons.proofs.SetLaws.{same-words, inside-taken, inside-words, inside-follows, inside-set}
 use Rattle.reasons.proofs.set.set_of.Statement.{statement}
 use Rattle.reasons.proofs.set.set_of.Tie as tie
 

@@ -1,7 +1,7 @@
-use Rattle.engine.proofs.VerdictRight.{verdict-right}
+-- `set_taken`: by the verdict: FOLLOWS means that the goal follows (`verdict-right`); else the out words stay.
 use mathlib.Core.Path.{refl, sym, _∙_}
--- `reasons::set::set_taken` meets its contract: by the verdict.
 use borrow.Author.Needs.{needs}
+use Rattle.engine.proofs.VerdictRight.{verdict-right}
 use Rattle.reasons.proofs.set.set_taken.Statement.{statement}
 use Rattle.reasons.proofs.set.set_taken.Tie as tie
 

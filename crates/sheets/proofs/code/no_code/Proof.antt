@@ -1,4 +1,4 @@
--- `sheets::no::no_code` meets its contract, answer by answer.
+-- `no_code`: answer by answer: its number plus 16 times its place or row (`place_code`), or the number alone.
 use borrow.Author.Needs.{needs}
 use Rattle.sheets.proofs.code.no_code.Statement.{statement}
 use Rattle.sheets.proofs.code.no_code.Tie as tie

@@ -1,4 +1,4 @@
--- `sheets::yes::yes_code` meets its contract, answer by answer.
+-- `yes_code`: answer by answer: its number plus 16 times its place or step (`place_code`), or the number alone.
 use borrow.Author.Needs.{needs}
 use Rattle.sheets.proofs.code.yes_code.Statement.{statement}
 use Rattle.sheets.proofs.code.yes_code.Tie as tie

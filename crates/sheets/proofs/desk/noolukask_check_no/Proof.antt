@@ -1,7 +1,7 @@
-use Rattle.sheets.specs.Desk.{noCode}
-use borrow.Author.Tests.{ne-eqb, eq-eqb}
--- `sheets::desk::noolukask_check_no` meets its contract.
+-- `noolukask_check_no`: 128 bytes of marks are 16 words, others are none; then the code of what `check_no` answers.
 use borrow.Author.Needs.{needs}
+use borrow.Author.Tests.{ne-eqb, eq-eqb}
+use Rattle.sheets.specs.Desk.{noCode}
 use Rattle.sheets.proofs.desk.noolukask_check_no.Statement.{statement}
 use Rattle.sheets.proofs.desk.noolukask_check_no.Tie as tie
 

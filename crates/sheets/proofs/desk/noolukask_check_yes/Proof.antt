@@ -1,7 +1,7 @@
--- `sheets::desk::noolukask_check_yes` meets its contract: 128 bytes are 16 words, and others are none.
+-- `noolukask_check_yes`: 128 bytes of marks are 16 words, others are none; then the code of what `check_yes` answers.
+use borrow.Author.Needs.{needs}
 use borrow.Author.Tests.{eq-eqb, ne-eqb}
 use Rattle.sheets.specs.Desk.{yesCode}
-use borrow.Author.Needs.{needs}
 use Rattle.sheets.proofs.desk.noolukask_check_yes.Statement.{statement}
 use Rattle.sheets.proofs.desk.noolukask_check_yes.Tie as tie
 

@@ -1,10 +1,10 @@
-use Rattle.writer.proofs.WriteLaws.{div-less}
-use borrow.Author.Tests.{lt-ltb, le-ltb}
-use native.Mathlib.Omega.{arith}
-use native.Mathlib.Nat.{mod-lt}
+-- `row_of`: below n a concept row; past that a link row, of a role below 8 (`div-less`) and a thing below n.
 use Prim.Native.Nat.{_-_, _/_, _%_, _<_}
--- `engine::write::row_of` meets its contract.
+use native.Mathlib.Nat.{mod-lt}
+use native.Mathlib.Omega.{arith}
 use borrow.Author.Needs.{needs}
+use borrow.Author.Tests.{lt-ltb, le-ltb}
+use Rattle.writer.proofs.WriteLaws.{div-less}
 use Rattle.writer.proofs.write.row_of.Statement.{statement}
 use Rattle.writer.proofs.write.row_of.Tie as tie
 

@@ -1,16 +1,16 @@
-use Rattle.writer.specs.Inner.{rowsBytes}
-use lib.ListN.{drop}
-use mathlib.Core.List.{_++_}
-use Rattle.writer.proofs.WriteLaws.{rows-length}
-use Rattle.writer.specs.declared.write.SheetAnswer.the-variants.{NoRoom}
-use Rattle.no.proofs.NoLaws.{rows-few}
-use borrow.Author.Tests.{le-leb, lt-leb}
-use native.Mathlib.Omega.{arith}
-use native.Mathlib.Nat.{mul-comm, mul-le-mul-left}
-use Prim.Native.Nat.{ℕ, _+_, _*_}
+-- `write_no`: at most 576 rows (`rows-few`): NO ROOM, the sheet as it was, or each row in 8 bytes (`rows-length`).
 use mathlib.Core.Path.{refl, sym, ap, _∙_}
--- `engine::write::write_no` meets its contract.
+use mathlib.Core.List.{_++_}
+use Prim.Native.Nat.{ℕ, _+_, _*_}
+use native.Mathlib.Nat.{mul-comm, mul-le-mul-left}
+use native.Mathlib.Omega.{arith}
+use lib.ListN.{drop}
 use borrow.Author.Needs.{needs}
+use borrow.Author.Tests.{le-leb, lt-leb}
+use Rattle.no.proofs.NoLaws.{rows-few}
+use Rattle.writer.specs.declared.write.SheetAnswer.the-variants.{NoRoom}
+use Rattle.writer.specs.Inner.{rowsBytes}
+use Rattle.writer.proofs.WriteLaws.{rows-length}
 use Rattle.writer.proofs.write.write_no.Statement.{statement}
 use Rattle.writer.proofs.write.write_no.Tie as tie
 

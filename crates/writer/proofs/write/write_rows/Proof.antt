@@ -1,11 +1,11 @@
-use Rattle.writer.proofs.WriteLaws.{Filled, filled-start, filled-length, filled-more}
-use Rattle.writer.specs.Inner.{rowIn}
-use lib.ListN.{length, length-take, length-drop}
-use native.Mathlib.Omega.{arith}
-use borrow.Author.Count.{below-more}
-use Prim.Native.Nat.{ℕ, _-_, _≤_, _<_, _^_}
+-- `write_rows`: before row i the bytes of the rows before it are in, the rest as it was (`Filled`, `filled-more`).
 use mathlib.Core.Path.{_≡_, ap, _∙_}
--- `engine::write::write_rows` meets its contract: row by row.
+use Prim.Native.Nat.{ℕ, _-_, _≤_, _<_, _^_}
+use native.Mathlib.Omega.{arith}
+use lib.ListN.{length, length-take, length-drop}
+use borrow.Author.Count.{below-more}
+use Rattle.writer.specs.Inner.{rowIn}
+use Rattle.writer.proofs.WriteLaws.{Filled, filled-start, filled-length, filled-more}
 use Rattle.writer.proofs.write.write_rows.Statement.{statement}
 use Rattle.writer.proofs.write.write_rows.Tie as tie
 

@@ -1,11 +1,12 @@
-use Rattle.writer.proofs.WriteLaws.{no-sheet}
-use Rattle.engine.proofs.VerdictLaws.{question, end-few, end-held}
-use Rattle.tables.specs.Tables.{held}
-use borrow.Author.Needs.{needs}
-use lib.ListN.{length, length-reverse}
-use native.Mathlib.Omega.{arith}
+-- `write_settled`: held, the goal follows and the count is that of our steps (`end-held`); not held, the rows are
+-- ours (`no-sheet`); TOO LONG is never answered (`end-few`).
 use mathlib.Core.Path.{refl, sym, ap, _∙_}
--- `engine::write::write_settled` meets its contract.
+use native.Mathlib.Omega.{arith}
+use lib.ListN.{length, length-reverse}
+use borrow.Author.Needs.{needs}
+use Rattle.tables.specs.Tables.{held}
+use Rattle.engine.proofs.VerdictLaws.{question, end-few, end-held}
+use Rattle.writer.proofs.WriteLaws.{no-sheet}
 use Rattle.writer.proofs.write.write_settled.Statement.{statement}
 use Rattle.writer.proofs.write.write_settled.Tie as tie
 

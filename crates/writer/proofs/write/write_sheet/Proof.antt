@@ -1,7 +1,7 @@
-use Rattle.writer.specs.Sheet.{askSheet, writtenSheet}
-use borrow.Author.Needs.{needs}
+-- `write_sheet`: the question's refusal, with the sheet as it was, or what `write_taken` writes.
 use mathlib.Core.Path.{sym, _∙_}
--- `engine::write::write_sheet` meets its contract: the question's refusal, or what is written.
+use borrow.Author.Needs.{needs}
+use Rattle.writer.specs.Sheet.{askSheet, writtenSheet}
 use Rattle.writer.proofs.write.write_sheet.Statement.{statement}
 use Rattle.writer.proofs.write.write_sheet.Tie as tie
 

@@ -1,5 +1,5 @@
+-- `write_taken`: a equal to b is FOLLOWS with 0 steps and nothing written (`same-sheet`); else `write_settled`.
 use Rattle.writer.proofs.WriteLaws.{same-sheet}
--- `engine::write::write_taken` meets its contract.
 use Rattle.writer.proofs.write.write_taken.Statement.{statement}
 use Rattle.writer.proofs.write.write_taken.Tie as tie
 

@@ -1,14 +1,14 @@
-use Rattle.writer.specs.Sheet.{wordBytes}
-use Rattle.bits.specs.Lists.{listed}
-use lib.ListN.{length-set, drop-of-length-le}
-use lib.Seq.{sets-eq}
-use native.Mathlib.Omega.{arith}
-use native.Mathlib.Nat.{div-one}
-use Prim.Native.Nat.{ℕ, _/_, _%_}
+-- `write_word`: eight stores fill a part of eight bytes (`sets-eq`), and these are those of the word (`bytes-are`).
 use mathlib.Core.Path.{_≡_, ap, _∙_}
 use mathlib.Core.List.{List, [], _∷_, _++_}
--- `engine::write::write_word` meets its contract: eight stores into a part of eight bytes.
+use Prim.Native.Nat.{ℕ, _/_, _%_}
+use native.Mathlib.Nat.{div-one}
+use native.Mathlib.Omega.{arith}
+use lib.ListN.{length-set, drop-of-length-le}
+use lib.Seq.{sets-eq}
 use borrow.Author.Needs.{needs}
+use Rattle.bits.specs.Lists.{listed}
+use Rattle.writer.specs.Sheet.{wordBytes}
 use Rattle.writer.proofs.write.write_word.Statement.{statement}
 use Rattle.writer.proofs.write.write_word.Tie as tie
 

@@ -1,11 +1,11 @@
-use Rattle.engine.proofs.VerdictLaws.{end-few}
-use borrow.Author.Needs.{needs}
-use lib.ListN.{length-take, length-drop}
+-- `write_yes`: NO ROOM (`yes-short`), or the passes again, on a part of the sheet as long as the steps (`yes-full`).
 use Prim.Native.Nat.{_*_}
-use borrow.Rule.Slice.PartMut.{post-is}
-use Rattle.writer.proofs.WriteLaws.{yes-short, yes-full}
 use native.Mathlib.Omega.{arith, by-contra}
--- `engine::write::write_yes` meets its contract: the passes again, on a part of the sheet as long as their steps.
+use lib.ListN.{length-take, length-drop}
+use borrow.Author.Needs.{needs}
+use borrow.Rule.Slice.PartMut.{post-is}
+use Rattle.engine.proofs.VerdictLaws.{end-few}
+use Rattle.writer.proofs.WriteLaws.{yes-short, yes-full}
 use Rattle.writer.proofs.write.write_yes.Statement.{statement}
 use Rattle.writer.proofs.write.write_yes.Tie as tie
 

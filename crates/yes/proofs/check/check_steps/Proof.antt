@@ -1,10 +1,10 @@
--- `sheets::yes::check_steps` meets its contract: before step i the tables hold what is known, and what is left of the search is
--- the whole of it.
-use Prim.Native.Nat.{_-_, _/_, _≤_}
+-- `check_steps`: before step i the rows hold what is known, and what is left of the search is the whole of it
+-- (`Passed`); a bad step ends it (`step-bad`), past the last the goal decides (`goal-shown`, `goal-not-shown`).
 use mathlib.Core.Path.{_≡_, refl}
+use Prim.Native.Nat.{_-_, _/_, _≤_}
 use native.Mathlib.Omega.{arith}
-use borrow.Author.Needs.{needs}
 use lib.ListN.{length}
+use borrow.Author.Needs.{needs}
 use Rattle.pack.specs.Record.{linesOf}
 use Rattle.pack.specs.Question.{counted}
 use Rattle.pack.proofs.Parts.{cut, cut-length}

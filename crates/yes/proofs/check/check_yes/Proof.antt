@@ -1,7 +1,7 @@
--- `sheets::yes::check_yes` meets its contract: the question's refusal, or what the sheet gives.
+-- `check_yes`: the question's refusal as it is, or what the sheet gives (`check_yes_counted`).
 use mathlib.Core.Path.{sym, _∙_}
-use Rattle.yes.specs.YesSheet.{checkYes}
 use borrow.Author.Needs.{needs}
+use Rattle.yes.specs.YesSheet.{checkYes}
 use Rattle.yes.proofs.check.check_yes.Statement.{statement}
 use Rattle.yes.proofs.check.check_yes.Tie as tie
 

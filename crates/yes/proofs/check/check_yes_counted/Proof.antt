@@ -1,7 +1,7 @@
--- `sheets::yes::check_yes_counted` meets its contract, test by test.
+-- `check_yes_counted`: test by test: LENGTH twice, no multiple of 8 and too long; then what `check_steps` gives.
+use borrow.Author.Needs.{needs}
 use borrow.Author.Tests.{le-leb, lt-leb, ne-eqb}
 use Rattle.yes.specs.YesSheet.{checkYes}
-use borrow.Author.Needs.{needs}
 use Rattle.yes.proofs.check.check_yes_counted.Statement.{statement}
 use Rattle.yes.proofs.check.check_yes_counted.Tie as tie
 

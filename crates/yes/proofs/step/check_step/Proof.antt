@@ -1,4 +1,5 @@
--- `sheets::step::check_step` meets its contract, test by test: what the tests show is the definition, part by part.
+-- `check_step`: test by test: what the tests show is the definition, part by part (`good-parts`); where all are
+-- passed, the fact that is added is the conclusion of the step (`concludes`).
 use mathlib.Core.Path.{_≡_, refl, sym, _∙_}
 use mathlib.Core.Bool.{true, _&&_}
 use Prim.Native.Nat.{_/_, _<_}
@@ -34,12 +35,12 @@ judged c =
     let place = c .before .before in
     rw (good-parts _ _ (place .before .before .before .read-step .ensures) (c .line-at .ensures), zeros-good (place .before), sym (place .place-counts .ensures) ∙ c .before .if2 .taken)
 
-concluded : (c : tie.After-line-at)
+conclusion-is : (c : tie.After-line-at)
     → let r = c .before .before .before .before .before in
     let a = r .before .before .before .before .args in
     let s = r .read-step .result in
     conclusion (c .line-at .result) (s .x) (s .y) (s .z) ≡ conclusionOf (linesOf (a .pack .now)) (stepIn (a .part .now))
-concluded c = concludes _ _ (c .before .before .before .before .before .read-step .ensures) (c .line-at .ensures) (below (c .before))
+conclusion-is c = concludes _ _ (c .before .before .before .before .before .read-step .ensures) (c .line-at .ensures) (below (c .before))
 
 read-step-requires : tie.Need-read-step-requires
 read-step-requires c κs = search needs
@@ -71,7 +72,7 @@ returns c =
     let prem = conc .before .before in
     let fit = prem .before .before .before in (
       rw (judged (fit .before .before), sym (fit .before .numbers-fit .ensures) ∙ fit .if3 .taken, sym (prem .premises-held .ensures) ∙ conc .before .if4 .taken),
-      rw (conc .conclude .ensures ∙ concluded (fit .before .before)) at (c .add-fact .ensures),
+      rw (conc .conclude .ensures ∙ conclusion-is (fit .before .before)) at (c .add-fact .ensures),
     )
 
 returns-2 : tie.Need-returns-2

@@ -1,4 +1,4 @@
--- `sheets::step::number_fits` meets its contract.
+-- `number_fits`: a number that is used, one that is not: each branch is a case of the definition.
 use Rattle.yes.proofs.step.number_fits.Statement.{statement}
 use Rattle.yes.proofs.step.number_fits.Tie as tie
 

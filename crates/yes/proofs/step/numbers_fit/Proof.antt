@@ -1,7 +1,7 @@
--- `sheets::step::numbers_fit` meets its contract, test by test.
+-- `numbers_fit`: test by test: X below n, then Y, then Z, each used or not as the line says (`uses_y`, `uses_z`).
 use mathlib.Core.Path.{sym, _∙_}
-use borrow.Author.Tests.{lt-ltb, le-ltb}
 use borrow.Author.Needs.{needs}
+use borrow.Author.Tests.{lt-ltb, le-ltb}
 use Rattle.yes.proofs.step.numbers_fit.Statement.{statement}
 use Rattle.yes.proofs.step.numbers_fit.Tie as tie
 

@@ -1,6 +1,6 @@
--- `sheets::step::place_counts` meets its contract.
-use borrow.Author.Tests.{lt-ltb, le-ltb}
+-- `place_counts`: a place past the records does not count; another does where it is marked.
 use borrow.Author.Needs.{needs}
+use borrow.Author.Tests.{lt-ltb, le-ltb}
 use Rattle.yes.proofs.step.place_counts.Statement.{statement}
 use Rattle.yes.proofs.step.place_counts.Tie as tie
 

@@ -1,4 +1,4 @@
--- `sheets::step::premises_held` meets its contract.
+-- `premises_held`: where the first premise is not held no; else it goes by the second.
 use mathlib.Core.Path.{sym, _∙_}
 use borrow.Author.Needs.{needs}
 use Rattle.yes.proofs.step.premises_held.Statement.{statement}

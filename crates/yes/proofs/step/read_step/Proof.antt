@@ -1,8 +1,8 @@
--- `sheets::step::read_step` meets its contract.
+-- `read_step`: the place is the number of the first two bytes, by arithmetic; X, Y and Z are the three after them.
 use mathlib.Core.Path.{_≡_}
 use native.Mathlib.Omega.{arith}
-use Rattle.pack.specs.Bytes.{littleEndian}
 use borrow.Author.Needs.{needs}
+use Rattle.pack.specs.Bytes.{littleEndian}
 use Rattle.yes.proofs.step.read_step.Statement.{statement}
 use Rattle.yes.proofs.step.read_step.Tie as tie
 
