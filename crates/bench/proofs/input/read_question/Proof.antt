@@ -41,7 +41,13 @@ shared-slice-read-t15 : tie.Need-shared-slice-read-t15
 shared-slice-read-t15 c = search needs
 
 returns-5 : tie.Need-returns-5
-returns-5 c = all-zero (c .before .before .before .before .before .before .before .before .before .before .before .before .args .q .now) (c .before .before .before .before .before .before .before .before .before .before .before .before .args .at) (c .before .before .before .before .before .before .before .before .before .before .if1 .left) (c .before .before .before .before .before .before .before .before .if2 .left) (c .before .before .before .before .before .before .if3 .left) (c .before .before .before .before .if4 .left)
+returns-5 c =
+    let fourth = c .before .before .before .before in
+    let third = fourth .before .before in
+    let second = third .before .before in
+    let first = second .before .before in
+    let a = first .before .before .args in
+    all-zero (a .q .now) (a .at) (first .if1 .left) (second .if2 .left) (third .if3 .left) (fourth .if4 .left)
 
 pub read-question-spec : {M : Type 1} → statement M
 read-question-spec =

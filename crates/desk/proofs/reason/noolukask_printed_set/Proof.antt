@@ -1,6 +1,6 @@
 -- `noolukask_printed_set`: marks in or out that are not 128 bytes are refused (`set-unread`); else the set is found
 -- in 16 words of its own and put into the bytes out (`set-read`).
-use mathlib.Core.Path.{refl, sym, _∙_}
+use mathlib.Core.Path.{_≡_, refl, sym, _∙_}
 use lib.ListN.{length}
 use borrow.Author.Needs.{needs}
 use Rattle.desk.proofs.UnreadLaws.{read-both, set-unread}
@@ -19,8 +19,12 @@ returns c =
     let a = c .before .before .before .before .before .before .args in
     set-unread _ _ _ (a .marks .now) _ _ (c .unread-code .ensures) (a .out .now) (sym (c .before .before .unread .ensures) ∙ c .before .if1 .taken)
 
+-- where both are read, they are 128 bytes
+lengths : (c : tie.Else1) → let a = c .before .before .before .before .before .args in (length (a .marks .now) ≡ 128) × (length (a .out .now) ≡ 128)
+lengths c = let a = c .before .before .before .before .before .args in read-both (length (a .marks .now)) (length (a .out .now)) (sym (c .before .unread .ensures) ∙ c .if1 .left)
+
 read-marks-requires : tie.Need-read-marks-requires
-read-marks-requires c κs = let a = c .before .before .before .before .before .args in read-both (length (a .marks .now)) (length (a .out .now)) (sym (c .before .unread .ensures) ∙ c .if1 .left) .0
+read-marks-requires c κs = lengths c .0
 
 slice-aggregate-printed-set : tie.Need-slice-aggregate-printed-set
 slice-aggregate-printed-set c = search needs
@@ -32,7 +36,7 @@ printed-set-requires : tie.Need-printed-set-requires
 printed-set-requires c κs = search needs
 
 set-code-requires : tie.Need-set-code-requires
-set-code-requires c κs = let a = c .before .before .before .before .before .before .before .before .before .before .before .before .args in (search needs, read-both (length (a .marks .now)) (length (a .out .now)) (sym (c .before .before .before .before .before .before .before .before .unread .ensures) ∙ c .before .before .before .before .before .before .before .if1 .left) .1)
+set-code-requires c κs = (search needs, lengths (c .before .before .before .before .before .before .before) .1)
 
 same-length : tie.Need-same-length
 same-length c = search needs
@@ -42,8 +46,8 @@ returns-2 c =
     let found = c .before .before .before .before .before .before .printed-set .ensures in
     let words = c .before .before .before .before .before .before .before .before .before .read-marks .ensures in
     let code = c .before .before .set-code .ensures in
-    let lengths = read-both _ _ (sym (c .before .before .before .before .before .before .before .before .before .before .before .unread .ensures) ∙ c .before .before .before .before .before .before .before .before .before .before .if1 .left) in
-    set-read _ _ _ _ _ _ _ _ (lengths .0) (lengths .1) refl (rw words at (found .0)) (rw words at (found .1)) (code .0) (code .1)
+    let both = lengths (c .before .before .before .before .before .before .before .before .before .before) in
+    set-read _ _ _ _ _ _ _ _ (both .0) (both .1) refl (rw words at (found .0)) (rw words at (found .1)) (code .0) (code .1)
 
 pub noolukask-printed-set-spec : {M : Type 1} → statement M
 noolukask-printed-set-spec =

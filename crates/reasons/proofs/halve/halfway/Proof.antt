@@ -38,7 +38,10 @@ next-marked-requires-3 c κs = search needs
 loop-holds : tie.Need-loop-holds Inv-loop μ-loop
 loop-holds c =
     let pre = c .before .before .before .before .pre in
-    (omega (arith, next-lowest _ _ _ (c .before .before .next-marked .ensures) .from), omega (arith, c .before .before .next-marked .ensures, pre .2), omega (arith, next-lowest _ _ _ (c .before .next-marked2 .ensures) .from, next-lowest _ _ _ (c .next-marked3 .ensures) .from), λ h. next-lowest _ _ _ (c .next-marked3 .ensures) .found (omega (arith, next-lowest _ _ _ (c .next-marked3 .ensures) .from)))
+    let first = next-lowest _ _ _ (c .before .before .next-marked .ensures) in
+    let second = next-lowest _ _ _ (c .before .next-marked2 .ensures) in
+    let third = next-lowest _ _ _ (c .next-marked3 .ensures) in
+    (omega (arith, first .from), omega (arith, c .before .before .next-marked .ensures, pre .2), omega (arith, second .from, third .from), λ h. third .found (omega (arith, third .from)))
 
 add-next-marked-4 : tie.Need-add-next-marked-4 Inv-loop μ-loop
 add-next-marked-4 c = omega (arith, c .before .loop .inv)
