@@ -23,7 +23,7 @@
  *
  * Numbers and lengths may be of any value: what is out of range is refused.
  * Nothing that is handed over is kept or freed, and nothing is changed but the sheet that
- * noolukask_write_sheet is lent and the marks out of noolukask_module and
+ * noolukask_write_sheet is lent and the out marks of noolukask_module and
  * noolukask_printed_set; these may share no byte with pack or marks. A pointer may be
  * NULL where its length is 0. Calls may run side by side.
  */

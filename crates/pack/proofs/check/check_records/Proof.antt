@@ -1,5 +1,5 @@
 -- `check_records`: the search from record i on gives what the whole search gives: a record that keeps its rules is
--- gone by (`broken-on`), another ends it (`broken-here`), and past the last there is none (`broken-none`).
+-- passed over (`broken-on`), another ends it (`broken-here`), and past the last there is none (`broken-none`).
 use mathlib.Core.Path.{_≡_, refl, sym, _∙_}
 use Prim.Native.Nat.{_≤_, _-_}
 use native.Mathlib.Nat.{sub-zero}
