@@ -14,7 +14,7 @@ use lib.Pow.{shr-shr, pow-pos, shl-exact, shr-le}
 use borrow.Author.Tests.{eqb-true, eq-eqb, ne-eqb}
 use Rattle.bits.specs.Bit.{has, withBit}
 use Rattle.bits.specs.Sets.{lowest, countTo}
-use Rattle.bits.proofs.Truth.{true-and, or-false, never}
+use Rattle.bits.proofs.Truth.{true-and, or-false, not-false, never}
 use Rattle.bits.proofs.SetLaws.{Lowest, lowest-is, count-add, count-same}
 
 -- bit j of w, as a number
@@ -148,8 +148,8 @@ pub has-none : (k a : ℕ) → a < 2 ^ k → ((j : ℕ) → j < k → has a j �
 has-none k a h e = has-ext k a 0 h (pow-pos k) (λ j l. e j l ∙ sym (has-zero j))
 
 -- a power of two has one bit
-bit-pow : (k j : ℕ) → has (2 ^ k) j ≡ eqb k j
-bit-pow k j = go (ℕ-discrete k j)
+has-pow : (k j : ℕ) → has (2 ^ k) j ≡ eqb k j
+has-pow k j = go (ℕ-discrete k j)
   where
     half : (i : ℕ) → 2 ^ suc i / 2 ≡ 2 ^ i
     half i = omega (arith, pow-suc 2 i)
@@ -171,7 +171,7 @@ bit-pow k j = go (ℕ-discrete k j)
 -- the word with bit j set has that bit and those that it had
 pub has-with : (w j i : ℕ) → has (withBit w j) i ≡ (has w i || eqb j i)
 unfolding withBit
-has-with w j i = has-or w (2 ^ j) i ∙ ap (λ (t : Bool). has w i || t) (bit-pow j i)
+has-with w j i = has-or w (2 ^ j) i ∙ ap (λ (t : Bool). has w i || t) (has-pow j i)
 
 -- a column with one row more has bit y where that row has bit a
 pub column-bits : (column row a y : ℕ) {r : ℕ} → a < 64 → y < 64 → r ≡ cond (has row (a % 64)) (withBit column (y % 64)) column → (j : ℕ) → has r j ≡ (has column j || (has row a && eqb y j))
@@ -196,6 +196,10 @@ lacking-bits x y hx hy j = has-and x ((2 ^ 64 - 1) - y) j ∙ go (decLt j 64)
     go : Dec (j < 64) → (has x j && has ((2 ^ 64 - 1) - y) j) ≡ (has x j && not (has y j))
     go (yes l) = ap (λ (t : Bool). has x j && t) (has-not-word 64 y j hy l)
     go (no l) = rw (has-high 64 x j hx (omega arith))
+
+-- where one word has no bit that the other lacks, the other has each of its bits
+pub lacks-none : (a b new j : ℕ) → new ≡ 0 → has new j ≡ (has a j && not (has b j)) → has a j ≡ true → has b j ≡ true
+lacks-none a b new j e is h = not-false (has b j) (sym (is ∙ rw h) ∙ ap (λ (w : ℕ). has w j) e ∙ has-zero j)
 
 -- a word without the bits of a word with one bit
 pub bit-off : (w v j r : ℕ) → v ≡ withBit 0 j → ((i : ℕ) → has r i ≡ (has w i && not (has v i))) → (i : ℕ) → has r i ≡ (has w i && not (eqb j i))

@@ -5,8 +5,10 @@ use Prim.Native.Nat.{ℕ, zero, suc, _+_, _-_, _≤_, _<_}
 use native.Mathlib.Decide.{ℕ-discrete, decLt}
 use native.Mathlib.Nat.{add-zero, add-suc}
 use native.Mathlib.Omega.{arith}
+use lib.Dec.{leb, ltb}
+use borrow.Author.Tests.{ltb-true, leb-true, lt-ltb, le-leb}
 use Rattle.bits.specs.Sets.{lowest, countTo, every, some}
-use Rattle.bits.proofs.Truth.{and-true, and-false, or-elim, or-left, or-right, never}
+use Rattle.bits.proofs.Truth.{and-true, true-and, and-false, or-elim, or-left, or-right, never, alike}
 
 -- r is the lowest of the c numbers from i on that is in p, or i + c
 pub record Lowest (p : ℕ → Bool) (i c r : ℕ) : Type 0 where
@@ -200,3 +202,26 @@ module _ (p q : ℕ → Bool) (h : (j : ℕ) → p j ≡ true → q j ≡ true) 
       go (no z) true false e₁ e₂ w f = never (h c e₁) e₂
       go (no z) false true e₁ e₂ w f = omega (arith, f (omega arith))
       go (no z) false false e₁ e₂ w f = omega (arith, f (omega arith))
+
+-- the next number of a set is further on
+pub further : (p : ℕ → Bool) (c : ℕ) {j r : ℕ} → r ≡ lowest p (j + 1) c → j < r
+further p c {j} e = let f = lowest-is p (j + 1) c .from in omega arith
+
+-- some number of p at or above the limit is below c exactly when the search from the limit on finds one
+pub lowest-past : (p : ℕ → Bool) (limit c : ℕ) → ltb (lowest p limit (c - limit)) c ≡ some c (λ j. leb limit j && p j)
+lowest-past p limit c =
+    alike (ltb r c) (some c (λ j. leb limit j && p j))
+    (λ h.
+    let l = ltb-true r c h in
+    let f = found .from in
+    true-some (λ j. leb limit j && p j) c r l (true-and (leb limit r) (p r) (le-leb limit r f) (found .found (omega arith))))
+    (λ h.
+    let e = some-true (λ j. leb limit j && p j) c h in
+    let q = and-true (leb limit (e .0)) (p (e .0)) (e .2) in
+    lt-ltb r c (omega (arith, e .1, lowest-least p found (e .0) (leb-true limit (e .0) (q .0)) (q .1))))
+  where
+    r : ℕ
+    r = lowest p limit (c - limit)
+
+    found : Lowest p limit (c - limit) r
+    found = lowest-is p limit (c - limit)

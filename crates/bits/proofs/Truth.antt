@@ -1,6 +1,11 @@
 -- Laws of yes and no.
 use mathlib.Core.Path.{_≡_, refl, sym}
 use mathlib.Core.Bool.{Bool, true, false, not, _&&_, _||_, true≢false}
+use Prim.Native.Nat.{ℕ, _<_}
+use native.Mathlib.Decide.{decLt}
+use native.Mathlib.Omega.{arith}
+use lib.Dec.{leb, ltb}
+use borrow.Author.Tests.{lt-leb, le-leb, lt-ltb, le-ltb}
 
 pub and-true : (a b : Bool) → (a && b) ≡ true → (a ≡ true) × (b ≡ true)
 and-true true b h = (refl, h)
@@ -57,3 +62,11 @@ pub alike : (a b : Bool) → (a ≡ true → b ≡ true) → (b ≡ true → a �
 alike true b f g = sym (f refl)
 alike false true f g = g refl
 alike false false f g = refl
+
+-- no less is not less
+pub leb-not : (a b : ℕ) → leb a b ≡ not (ltb b a)
+leb-not a b = go (decLt b a)
+  where
+    go : Dec (b < a) → leb a b ≡ not (ltb b a)
+    go (yes l) = rw (lt-leb a b l, lt-ltb b a l)
+    go (no l) = rw (le-leb a b (omega arith), le-ltb b a (omega arith))

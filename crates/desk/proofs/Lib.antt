@@ -1,4 +1,4 @@
--- That the promises fix their results; marks out for C.
+-- That the promises fix their results; out marks for C.
 pub mod Promises
 pub mod UnreadLaws
 pub mod MarksLaws

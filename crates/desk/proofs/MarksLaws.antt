@@ -31,7 +31,7 @@ use Rattle.reasons.specs.Set.{setNumber, setValue, setMarks, setOut, askSet, wr
 use Rattle.reasons.proofs.ModuleLaws.{MarksModule, module-written, module-right, module-length}
 use Rattle.reasons.proofs.SetLaws.{set-length}
 use Rattle.reasons.proofs.SetRight.{set-found, set-printed}
-use Rattle.desk.specs.Desk.{deskCode, wordsBytes, askModuleC, moduleCode, moduleBytes, setCode, setBytes}
+use Rattle.desk.specs.Desk.{deskCode, checkedCode, setCodeOf, wordsBytes, askModuleC, moduleCode, moduleBytes, setCode, setBytes}
 
 -- the bytes of the first j words, and what stands after them
 abbrev pub Filled : List ℕ → List ℕ → ℕ → List ℕ
@@ -99,7 +99,7 @@ module _ (n m : ℕ) (s marks : List ℕ) (a : ℕ) (out : List ℕ) where
   -- THE MODULE FROM ITS WORDS, found in 16 words of any content
   pub module-read : {r : ℕ} {answer : Checked} {after found : List ℕ} (blank : List ℕ) → length marks ≡ 128 → length out ≡ 128 → length blank ≡ 16
       → answer ≡ askModule n m s (wordsIn marks) a blank → found ≡ writtenModule n m s (wordsIn marks) a blank
-      → r ≡ deskCode (checkedNumber answer) (checkedValue answer) → after ≡ moduleOut answer (wordsBytes found) out
+      → r ≡ checkedCode answer → after ≡ moduleOut answer (wordsBytes found) out
       → (r ≡ moduleCode n m s marks a out) × (after ≡ moduleBytes n m s marks a out)
   unfolding moduleCode moduleBytes writtenModule
   module-read =
@@ -121,7 +121,7 @@ module _ (n m : ℕ) (s marks : List ℕ) (a b : ℕ) (out : List ℕ) where
   -- THE PRINTED SET FROM ITS WORDS
   pub set-read : {r : ℕ} {answer : SetAnswer} {after found : List ℕ} (blank : List ℕ) → length marks ≡ 128 → length out ≡ 128 → length blank ≡ 16
       → answer ≡ askSet n m s (wordsIn marks) a b blank → found ≡ writtenSet n m s (wordsIn marks) a b blank
-      → r ≡ deskCode (setNumber answer) (setValue answer) → after ≡ setOut answer (wordsBytes found) out
+      → r ≡ setCodeOf answer → after ≡ setOut answer (wordsBytes found) out
       → (r ≡ setCode n m s marks a b out) × (after ≡ setBytes n m s marks a b out)
   unfolding setCode setBytes writtenSet
   set-read =

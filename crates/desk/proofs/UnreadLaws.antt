@@ -12,7 +12,6 @@ use Rattle.marks.specs.Marks.{marksFit}
 use Rattle.pack.specs.declared.check.Checked.{Checked}
 use Rattle.pack.specs.declared.check.Checked.the-variants.{Refused, Count}
 use Rattle.pack.specs.declared.check.Refusal.{Refusal}
-use Rattle.pack.specs.Answers.{checkedNumber, checkedValue}
 use Rattle.pack.specs.Bytes.{wordsIn, marksIn}
 use Rattle.pack.specs.Question.{checkQuestion}
 use Rattle.pack.proofs.QuestionLaws.{asked}
@@ -21,7 +20,7 @@ use Rattle.writer.specs.Sheet.{askSheet, writtenSheet}
 use Rattle.reasons.proofs.OutLaws.{reason-unread}
 use Rattle.reasons.proofs.ModuleLaws.{module-refused}
 use Rattle.reasons.proofs.SetLaws.{set-refused}
-use Rattle.desk.specs.Desk.{deskCode, questionCode, verdictCode, sheetCode, moduleCode, moduleBytes, setCode, setBytes}
+use Rattle.desk.specs.Desk.{checkedCode, questionCode, verdictCode, sheetCode, moduleCode, moduleBytes, setCode, setBytes}
 
 -- bytes of another length are no words
 pub no-words : (marks : List ℕ) → (length marks ≡ 128 → ⊥) → marksIn marks ≡ []
@@ -57,7 +56,7 @@ read-both marks out = go (eqb marks 128) (eqb out 128) refl refl
     go false u e f h = never refl h
 
 -- EACH CALL'S CODE is then that of the question check without words
-module _ (n m : ℕ) (s marks : List ℕ) (a b : ℕ) {r : ℕ} (code : r ≡ deskCode (checkedNumber (checkQuestion n m s [] a b)) (checkedValue (checkQuestion n m s [] a b))) where
+module _ (n m : ℕ) (s marks : List ℕ) (a b : ℕ) {r : ℕ} (code : r ≡ checkedCode (checkQuestion n m s [] a b)) where
   module _ (d : length marks ≡ 128 → ⊥) where
     pub question-unread : r ≡ questionCode n m s marks a b
     unfolding questionCode
@@ -78,7 +77,7 @@ module _ (n m : ℕ) (s marks : List ℕ) (a b : ℕ) {r : ℕ} (code : r ≡ de
       let t = set-refused n m s (marksIn marks) a b (marksIn out) (reason-unread n m s (marksIn marks) a b (length (marksIn out)) (none-fit marks out h) ∙ u .1) in
       rw (t .0) (rw (u .1) at code, refl)
 
-pub module-unread : (n m : ℕ) (s marks : List ℕ) (a : ℕ) {r : ℕ} → r ≡ deskCode (checkedNumber (checkQuestion n m s [] a a)) (checkedValue (checkQuestion n m s [] a a))
+pub module-unread : (n m : ℕ) (s marks : List ℕ) (a : ℕ) {r : ℕ} → r ≡ checkedCode (checkQuestion n m s [] a a)
     → (out : List ℕ) → Unread marks out ≡ true → (r ≡ moduleCode n m s marks a out) × (out ≡ moduleBytes n m s marks a out)
 unfolding moduleCode moduleBytes
 module-unread n m s marks a code out h =

@@ -1,4 +1,4 @@
-// The checks, the verdict and the sheet writer for C: each is the Rattle call of its name, the marks as 128 bytes.
+// The pack check, the question check, the verdict and the sheet writer for C: each is the Rattle call of its name, the marks as 128 bytes.
 ghost use mathlib.Core.Path.{_≡_};
 ghost use Rattle.pack.specs.Bytes.{marksIn};
 ghost use Rattle.writer.specs.Sheet.{writtenSheet};

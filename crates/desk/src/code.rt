@@ -2,11 +2,8 @@
 ghost use mathlib.Core.Path.{_≡_};
 ghost use mathlib.Core.List.{[]};
 ghost use Prim.Native.Nat.{_+_, _*_, _≤_};
-ghost use Rattle.pack.specs.Answers.{checkedNumber, checkedValue};
 ghost use Rattle.pack.specs.Question.{checkQuestion};
-ghost use Rattle.engine.specs.Answers.{verdictNumber, verdictValue};
-ghost use Rattle.writer.specs.Sheet.{sheetNumber};
-ghost use Rattle.desk.specs.Desk.{deskCode, sheetValueC};
+ghost use Rattle.desk.specs.Desk.{deskCode, checkedCode, verdictCodeOf, sheetCodeOf};
 use engine::verdict::VerdictAnswer;
 use pack::check::Checked;
 use pack::check::refusal_number;
@@ -23,7 +20,7 @@ pub fn desk_code(number: u32, value: u32) -> u64
 
 // What a check of 1 to 3, or of 1 to 5, returns.
 pub fn checked_code(checked: Checked) -> u64
-    ensures { λ r. ⌜ r ≡ deskCode (checkedNumber checked) (checkedValue checked) ⌝ }
+    ensures { λ r. ⌜ r ≡ checkedCode checked ⌝ }
 {
     match checked {
         Checked::Refused(why) => desk_code(refusal_number(why), refusal_place(why)),
@@ -33,7 +30,7 @@ pub fn checked_code(checked: Checked) -> u64
 
 // Of marks in or out that are not 128 bytes: MARKS, or a lower number.
 pub fn unread_code(n: u64, m: u64, pack: &[u8], a: u64, b: u64) -> u64
-    ensures { λ r. ⌜ r ≡ deskCode (checkedNumber (checkQuestion n m (now (pack .entry)) [] a b)) (checkedValue (checkQuestion n m (now (pack .entry)) [] a b)) ⌝ }
+    ensures { λ r. ⌜ r ≡ checkedCode (checkQuestion n m (now (pack .entry)) [] a b) ⌝ }
 {
     let none = [0u64; 0];
     checked_code(check_question(n as usize, m as usize, pack, &none, a as usize, b as usize))
@@ -41,7 +38,7 @@ pub fn unread_code(n: u64, m: u64, pack: &[u8], a: u64, b: u64) -> u64
 
 // What the verdict call returns.
 pub fn verdict_code(answer: VerdictAnswer) -> u64
-    ensures { λ r. ⌜ r ≡ deskCode (verdictNumber answer) (verdictValue answer) ⌝ }
+    ensures { λ r. ⌜ r ≡ verdictCodeOf answer ⌝ }
 {
     match answer {
         VerdictAnswer::Refused(why) => desk_code(refusal_number(why), refusal_place(why)),
@@ -61,7 +58,7 @@ fn parts_code(count: u32, yes: u32) -> u64
 
 // What the sheet writer's call returns.
 pub fn sheet_code(answer: SheetAnswer) -> u64
-    ensures { λ r. ⌜ r ≡ deskCode (sheetNumber answer) (sheetValueC answer) ⌝ }
+    ensures { λ r. ⌜ r ≡ sheetCodeOf answer ⌝ }
 {
     match answer {
         SheetAnswer::Refused(why) => desk_code(refusal_number(why), refusal_place(why)),

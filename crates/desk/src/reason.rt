@@ -3,10 +3,9 @@ ghost use mathlib.Core.Path.{_≡_};
 ghost use mathlib.Core.Bool.{not, _||_};
 ghost use lib.Dec.{eqb};
 ghost use lib.ListN.{length};
-ghost use Rattle.pack.specs.Answers.{checkedNumber, checkedValue};
 ghost use Rattle.reasons.specs.Module.{moduleOut};
-ghost use Rattle.reasons.specs.Set.{setNumber, setValue, setOut};
-ghost use Rattle.desk.specs.Desk.{deskCode, wordsBytes, moduleCode, moduleBytes, setCode, setBytes};
+ghost use Rattle.reasons.specs.Set.{setOut};
+ghost use Rattle.desk.specs.Desk.{checkedCode, setCodeOf, wordsBytes, moduleCode, moduleBytes, setCode, setBytes};
 use crate::code::desk_code;
 use crate::code::unread_code;
 use pack::bytes::read_marks;
@@ -43,7 +42,7 @@ fn unread(marks: usize, out: usize) -> bool
 // What the module call returns; where nothing is refused, the words that were found go into the out marks.
 fn module_code(answer: Checked, found: &[u64; 16], out: &mut [u8]) -> u64
     requires { ⌜ (length (now found) ≡ 16) × (length (now out) ≡ 128) ⌝ }
-    ensures { λ r. ⌜ (r ≡ deskCode (checkedNumber answer) (checkedValue answer)) × (now (out .exit) ≡ moduleOut answer (wordsBytes (now (found .entry))) (now (out .entry))) ⌝ }
+    ensures { λ r. ⌜ (r ≡ checkedCode answer) × (now (out .exit) ≡ moduleOut answer (wordsBytes (now (found .entry))) (now (out .entry))) ⌝ }
 {
     match answer {
         Checked::Refused(why) => desk_code(refusal_number(why), refusal_place(why)),
@@ -78,7 +77,7 @@ pub extern "C" fn noolukask_module<'a>(
 // What the printed set's call returns; where nothing is refused, the words that were found go into the out marks.
 fn set_code(answer: SetAnswer, found: &[u64; 16], out: &mut [u8]) -> u64
     requires { ⌜ (length (now found) ≡ 16) × (length (now out) ≡ 128) ⌝ }
-    ensures { λ r. ⌜ (r ≡ deskCode (setNumber answer) (setValue answer)) × (now (out .exit) ≡ setOut answer (wordsBytes (now (found .entry))) (now (out .entry))) ⌝ }
+    ensures { λ r. ⌜ (r ≡ setCodeOf answer) × (now (out .exit) ≡ setOut answer (wordsBytes (now (found .entry))) (now (out .entry))) ⌝ }
 {
     match answer {
         SetAnswer::Refused(why) => desk_code(refusal_number(why), refusal_place(why)),

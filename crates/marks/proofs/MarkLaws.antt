@@ -1,18 +1,18 @@
 -- Laws of marks: place by place in the words, and word by word in the count and the search.
 use mathlib.Core.Path.{_≡_, refl, ap, ap₂, _∙_}
-use mathlib.Core.Bool.{true, false}
+use mathlib.Core.Bool.{Bool, true, false, not, _&&_}
 use mathlib.Core.List.{List}
 use Prim.Native.Nat.{ℕ, _+_, _-_, _*_, _/_, _%_, _≤_, _<_}
 use native.Mathlib.Decide.{decLt}
 use native.Mathlib.Omega.{arith}
 use lib.Dec.{eqb, leb}
 use lib.ListN.{length, getD, List·getD-eq-default}
-use borrow.Author.Tests.{eqb-true, leb-true, eq-eqb, le-leb}
+use borrow.Author.Tests.{eqb-true, eq-eqb, le-leb, lt-leb}
 use Rattle.bits.specs.Bit.{has}
-use Rattle.bits.specs.Sets.{lowest, countTo}
-use Rattle.bits.proofs.Truth.{and-true}
+use Rattle.bits.specs.Sets.{lowest, countTo, some}
+use Rattle.bits.proofs.Truth.{and-true, true-and, and-false, not-true, never}
 use Rattle.bits.proofs.BitLaws.{has-zero}
-use Rattle.bits.proofs.SetLaws.{Lowest, lowest-is, lowest-at, count-add, count-same}
+use Rattle.bits.proofs.SetLaws.{Lowest, lowest-is, true-some, some-false, count-add, count-same}
 use Rattle.marks.specs.Marks.{marked, marksFit}
 
 module _ (ws : List ℕ) where
@@ -79,18 +79,19 @@ module _ (ws : List ℕ) where
   pub fit : {count : ℕ} → marksFit ws count ≡ true → Fit count
   unfolding marksFit
   fit {count} h =
-      let a = and-true (eqb (length ws) 16) (leb 1024 (lowest (marked ws) count (1024 - count))) h in
+      let a = and-true (eqb (length ws) 16) (not (some 1024 (λ i. leb count i && marked ws i))) h in
       let six : length ws ≡ 16 = eqb-true _ _ (a .0) in
-      let far : 1024 ≤ lowest (marked ws) count (1024 - count) = leb-true _ _ (a .1) in
-      record { sixteen = six; above = λ i l. go six far i l (decLt i 1024) }
+      record { sixteen = six; above = λ i l. go six (not-true (some 1024 (λ i. leb count i && marked ws i)) (a .1)) i l (decLt i 1024) (marked ws i) refl }
     where
-      go : length ws ≡ 16 → 1024 ≤ lowest (marked ws) count (1024 - count) → (i : ℕ) → count ≤ i → Dec (i < 1024) → marked ws i ≡ false
-      go six far i l (yes k) = lowest-is (marked ws) count (1024 - count) .none i l (omega arith)
-      go six far i l (no k) = unmarked-past i (omega arith)
+      go : length ws ≡ 16 → some 1024 (λ i. leb count i && marked ws i) ≡ false → (i : ℕ) → count ≤ i → Dec (i < 1024) → (t : Bool) → marked ws i ≡ t → t ≡ false
+      go six none i l (yes k) true e = never (true-some (λ i. leb count i && marked ws i) 1024 i k (true-and (leb count i) (marked ws i) (le-leb count i l) e)) none
+      go six none i l (no k) true e = never e (unmarked-past i (omega arith))
+      go six none i l d false e = refl
 
-  pub fits : {count : ℕ} → count ≤ 1024 → Fit count → marksFit ws count ≡ true
+  pub fits : {count : ℕ} → Fit count → marksFit ws count ≡ true
   unfolding marksFit
-  fits {count} h f =
-      let e : 1024 ≡ lowest (marked ws) count (1024 - count) =
-      lowest-at (marked ws) (record { from = h; within = omega arith; none = λ j a b. f .above j a; found = λ g. absurd (omega arith) }) in
-      rw (eq-eqb (length ws) 16 (f .sixteen), le-leb 1024 (lowest (marked ws) count (1024 - count)) (omega arith))
+  fits {count} f = rw (eq-eqb (length ws) 16 (f .sixteen), some-false (λ i. leb count i && marked ws i) 1024 (λ i _. go i (decLt i count)))
+    where
+      go : (i : ℕ) → Dec (i < count) → (leb count i && marked ws i) ≡ false
+      go i (yes l) = rw (lt-leb count i l)
+      go i (no l) = and-false (leb count i) (marked ws i) (f .above i (omega arith))

@@ -52,6 +52,13 @@ module _ (P : ℕ → Bool) where
 pub marks-alike : (P Q : ℕ → Bool) → ((i : ℕ) → i < 1024 → P i ≡ Q i) → marksOf P ≡ marksOf Q
 marks-alike P Q h = marks-same Q (marksOf P) (marks-length P) (marks-small P) (λ i l. marked-of P i l ∙ h i l)
 
+-- words that mark a set of places mark what they mark
+pub marks-again : (P : ℕ → Bool) (ws : List ℕ) → ws ≡ marksOf P → ws ≡ marksOf (marked ws)
+marks-again P ws e = e ∙ marks-alike P (marked ws) (λ i l. sym (marked-of P i l) ∙ sym (ap (λ (v : List ℕ). marked v i) e))
+
+pub sixteen-again : (ws : List ℕ) → ws ≡ marksOf (marked ws) → length ws ≡ 16
+sixteen-again ws e = ap length e ∙ marks-length (marked ws)
+
 -- SIXTEEN WORDS FILLED ONE BY ONE: the first j are those of P
 pub record Filled (P : ℕ → Bool) (words : List ℕ) (j : ℕ) : Type 0 where
   pub most : j ≤ 16

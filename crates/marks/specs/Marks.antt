@@ -1,11 +1,11 @@
 -- Which places 16 words mark, which words are marks of a pack of so many records, and the words of a set of places.
 use mathlib.Core.Bool.{Bool, not, _&&_}
 use mathlib.Core.List.{List}
-use Prim.Native.Nat.{ℕ, _+_, _-_, _*_, _/_, _%_}
+use Prim.Native.Nat.{ℕ, _+_, _*_, _/_, _%_}
 use lib.Dec.{eqb, leb, ltb}
 use lib.ListN.{length, getD}
 use Rattle.bits.specs.Bit.{has, row}
-use Rattle.bits.specs.Sets.{lowest, countTo}
+use Rattle.bits.specs.Sets.{countTo, some}
 use Rattle.bits.specs.Lists.{listed}
 
 -- place i is marked when bit i mod 64 of word i div 64 is set
@@ -14,7 +14,7 @@ marked ws i = has (getD ws (i / 64) 0) (i % 64)
 
 -- 16 words, and no bit set at or above the record count
 unfoldable pub marksFit : List ℕ → ℕ → Bool
-marksFit ws count = eqb (length ws) 16 && leb 1024 (lowest (marked ws) count (1024 - count))
+marksFit ws count = eqb (length ws) 16 && not (some 1024 (λ i. leb count i && marked ws i))
 
 -- how many places are marked
 abbrev pub markCount : List ℕ → ℕ

@@ -15,7 +15,7 @@ pub fn mark_word(marks: &[u64], j: usize) -> u64
     marks[j]
 }
 
-// Is record i marked?
+// Is place i marked?
 pub fn is_marked(marks: &[u64], i: usize) -> bool
     ensures { λ r. ⌜ r ≡ marked (now (marks .entry)) i ⌝ }
 {
@@ -37,7 +37,7 @@ pub fn next_marked(marks: &[u64], from: usize) -> usize
     i
 }
 
-// How many records are marked.
+// How many places are marked.
 pub fn count_marked(marks: &[u64]) -> u32
     ensures { λ r. ⌜ r ≡ markCount (now (marks .entry)) ⌝ }
 {

@@ -5,37 +5,15 @@ use Prim.Native.Nat.{ℕ, suc, _-_, _^_, _≤_, _<_}
 use native.Mathlib.Decide.{decLt}
 use native.Mathlib.Omega.{arith, by-contra}
 use lib.Bits.{bitAnd}
-use lib.Dec.{eqb, ltb, leb}
-use borrow.Author.Tests.{lt-ltb, ltb-true, leb-true, le-leb, eq-eqb, ne-eqb, eqb-true, eqb-false}
+use lib.Dec.{eqb}
+use borrow.Author.Tests.{eq-eqb, ne-eqb, eqb-true, eqb-false}
 use Rattle.bits.specs.Bit.{has}
 use Rattle.bits.specs.Sets.{lowest, every, some}
-use Rattle.bits.proofs.Truth.{and-true, true-and, and-false, and-yes, alike, never}
+use Rattle.bits.proofs.Truth.{and-false, and-yes, alike, never}
 use Rattle.bits.proofs.SetLaws.{Lowest, lowest-is, lowest-at, every-true, true-every, every-false, some-true, true-some, some-false}
 use Rattle.bits.proofs.BitLaws.{meets-none, none-meets, contained, contains}
 use Rattle.pack.specs.World.{implies}
 use Rattle.pack.proofs.WorldLaws.{implies-true, true-implies}
-
--- a bit at or above the limit is there exactly when the search from the limit on finds one
-pub past : (w limit : ℕ) → ltb (lowest (has w) limit (64 - limit)) 64 ≡ some 64 (λ j. leb limit j && has w j)
-past w limit =
-    alike (ltb (lowest (has w) limit (64 - limit)) 64) (some 64 (λ j. leb limit j && has w j))
-    (λ h.
-    let l = ltb-true (lowest (has w) limit (64 - limit)) 64 h in
-    let f = found .from in
-    true-some (λ j. leb limit j && has w j) 64 (lowest (has w) limit (64 - limit)) l
-    (true-and (leb limit (lowest (has w) limit (64 - limit))) (has w (lowest (has w) limit (64 - limit))) (le-leb limit (lowest (has w) limit (64 - limit)) f) (found .found (omega arith))))
-    (λ h.
-    let e = some-true (λ j. leb limit j && has w j) 64 h in
-    let p = and-true (leb limit (e .0)) (has w (e .0)) (e .2) in
-    let a = leb-true limit (e .0) (p .0) in
-    lt-ltb (lowest (has w) limit (64 - limit)) 64 (below (e .0) (e .1) a (p .1) (decLt (lowest (has w) limit (64 - limit)) 64)))
-  where
-    found : Lowest (has w) limit (64 - limit) (lowest (has w) limit (64 - limit))
-    found = lowest-is (has w) limit (64 - limit)
-
-    below : (j : ℕ) → j < 64 → limit ≤ j → has w j ≡ true → Dec (lowest (has w) limit (64 - limit) < 64) → lowest (has w) limit (64 - limit) < 64
-    below j l a p (yes q) = q
-    below j l a p (no q) = never p (found .none j a (omega arith))
 
 -- two words meet
 pub meet : (x y : ℕ) → x < 2 ^ 64 → not (eqb (bitAnd x y) 0) ≡ some 64 (λ j. has x j && has y j)

@@ -2,7 +2,7 @@
 use mathlib.Core.Path.{_≡_, refl}
 use mathlib.Core.Bool.{Bool, true, false, cond}
 use mathlib.Core.List.{List}
-use Prim.Native.Nat.{ℕ, _≤_, _<_}
+use Prim.Native.Nat.{ℕ, _<_}
 use native.Mathlib.Omega.{arith}
 use lib.Dec.{ltb}
 use lib.ListN.{length}
@@ -15,6 +15,8 @@ use Rattle.pack.specs.declared.check.Checked.{Checked}
 use Rattle.pack.specs.declared.check.Checked.the-variants.{Refused, Count}
 use Rattle.pack.specs.Pack.{checkPack}
 use Rattle.pack.specs.Question.{goalFits, afterPack, checkQuestion}
+use Rattle.pack.specs.Record.{linesOf, Valid}
+use Rattle.pack.proofs.RecordLaws.{lines-valid}
 use Rattle.pack.proofs.PackLaws.{Accepted, accepted, accepts}
 
 pub record Asked (n m : ℕ) (s ws : List ℕ) (a b k : ℕ) : Type 0 where
@@ -49,12 +51,15 @@ asked n m s ws a b {k} = after (checkPack n m s) refl
     after (Refused why) e h = let z : _≡_ {A = ℕ} 0 1 = cc in absurd (omega arith)
     after (Count j) e h = counts j e (marksFit ws j) refl h
 
+-- so its lines are valid
+pub asked-valid : (n m : ℕ) (s ws : List ℕ) (a b : ℕ) {k : ℕ} → checkQuestion n m s ws a b ≡ Count k → Valid n m (linesOf s)
+asked-valid n m s ws a b h = lines-valid n m s (asked n m s ws a b h .pack .all)
+
 -- AND ONE THAT KEEPS THEM IS TAKEN
 pub asks : (n m : ℕ) (s ws : List ℕ) (a b : ℕ) {k : ℕ} → Asked n m s ws a b k → checkQuestion n m s ws a b ≡ Count k
 unfolding checkQuestion
 asks n m s ws a b {k} q =
-    let most : k ≤ 1024 = omega (arith, q .pack .count, q .pack .size) in
-    rw (accepts n m s (q .pack), fits ws most (q .marks), lt-ltb a n (q .goalA), lt-ltb b n (q .goalB))
+    rw (accepts n m s (q .pack), fits ws (q .marks), lt-ltb a n (q .goalA), lt-ltb b n (q .goalB))
 
 -- so it is taken with fewer marks too
 pub asks-fewer : (n m : ℕ) (s ws : List ℕ) (a b : ℕ) {k : ℕ} → checkQuestion n m s ws a b ≡ Count k → (ws′ : List ℕ) → length ws′ ≡ 16 → ((i : ℕ) → marked ws′ i ≡ true → marked ws i ≡ true) → checkQuestion n m s ws′ a b ≡ Count k

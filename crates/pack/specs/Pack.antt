@@ -19,13 +19,13 @@ abbrev pub lengthFits : List ℕ → Bool
 lengthFits s = eqb (length s % 8) 0 && leb (length s) 8192
 
 -- the lowest place of a record that breaks the rules of its fields, or the record count
-abbrev pub lowestBroken : ℕ → ℕ → List ℕ → ℕ
-lowestBroken n m s = lowest (λ i. not (keepsAt n m s i)) 0 (recordCount s)
+abbrev pub lowestUnkept : ℕ → ℕ → List ℕ → ℕ
+lowestUnkept n m s = lowest (λ i. not (keepsAt n m s i)) 0 (recordCount s)
 
 unfoldable pub checkRecords : ℕ → ℕ → List ℕ → Checked
 checkRecords n m s =
-    cond (ltb (lowestBroken n m s) (recordCount s))
-    (Refused (Record (lowestBroken n m s)))
+    cond (ltb (lowestUnkept n m s) (recordCount s))
+    (Refused (Record (lowestUnkept n m s)))
     (Count (recordCount s))
 
 -- 1 SIZES, 2 PACK, 3 RECORD, else the record count

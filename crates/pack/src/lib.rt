@@ -1,4 +1,4 @@
-// A pack and what a question hands over with it: records, marks, goal.
+// A pack and the question about it: records, lines, the goal; words and marks read from bytes.
 pub mod bytes;
 pub mod check;
 pub mod line;

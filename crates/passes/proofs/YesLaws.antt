@@ -27,7 +27,7 @@ use Rattle.passes.proofs.SaturationLaws.{Added, Built, built-later}
 use Rattle.passes.proofs.PassLaws.{BuiltSteps, steps-most, finished-built}
 use Rattle.passes.proofs.StopLaws.{said-reverse, reached-said, first-reached, ours-reached, ours-none}
 
--- what the sheets' check calls concluded and known is what the passes say and hold
+-- what the yes check calls concluded and known is what the passes say and hold
 pub concluded-said : (ls : List Line) (ss : List Step) (f : Fact) → concluded ls ss f ≡ said (el ls) ss f
 unfolding concluded said
 concluded-said ls [] f = refl

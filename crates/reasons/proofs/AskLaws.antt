@@ -14,12 +14,11 @@ use Rattle.marks.proofs.CutLaws.{cut-marked, cut-fewer}
 use Rattle.pack.specs.Question.{Taken}
 use Rattle.pack.specs.Record.{linesOf}
 use Rattle.pack.specs.World.{Follows}
-use Rattle.pack.proofs.QuestionLaws.{asks-fewer}
+use Rattle.pack.proofs.QuestionLaws.{asks-fewer, asked, asked-valid}
 use Rattle.pack.proofs.RecordLaws.{lines-length}
 use Rattle.passes.specs.Passes.{verdict}
 use Rattle.passes.proofs.PassLaws.{decides}
 use Rattle.engine.specs.Verdict.{follows}
-use Rattle.engine.proofs.VerdictLaws.{question, valid}
 use Rattle.reasons.specs.Inner.{Next}
 use Rattle.reasons.specs.Printed.{IsPicked}
 use Rattle.reasons.proofs.PrintedLaws.{follows-more}
@@ -27,11 +26,11 @@ use Rattle.reasons.proofs.HalveLaws.{Rest, halved-start, halved-end, re
 
 module _ (n m : ℕ) (s ws : List ℕ) (a b : ℕ) (t : Taken n m s ws a b) where
   pub taken-sixteen : length ws ≡ 16
-  taken-sixteen = question n m s ws a b (t .1) .marks .sixteen
+  taken-sixteen = asked n m s ws a b (t .1) .marks .sixteen
 
   -- a pack has at most 1,024 records
   pub lines-most : length (linesOf s) ≤ 1024
-  lines-most = omega (arith, lines-length s, question n m s ws a b (t .1) .pack .size)
+  lines-most = omega (arith, lines-length s, asked n m s ws a b (t .1) .pack .size)
 
   -- with fewer marks
   pub fewer-taken : (ws′ : List ℕ) → length ws′ ≡ 16 → ((i : ℕ) → marked ws′ i ≡ true → marked ws i ≡ true) → Taken n m s ws′ a b
@@ -51,10 +50,10 @@ module _ (n m : ℕ) (s ws : List ℕ) (a b : ℕ) (t : Taken n m s ws a b) wher
   -- the answer is right, over any set of places
   module _ (P : ℕ → Bool) where
     pub yes-follows : verdict (linesOf s) P n m a b ≡ true → Follows (linesOf s) P a b
-    yes-follows = let q = question n m s ws a b (t .1) in decides (linesOf s) P n m (valid n m s ws a b (t .1)) (q .pack .n-some) a b (q .goalA) .0
+    yes-follows = let q = asked n m s ws a b (t .1) in decides (linesOf s) P n m (asked-valid n m s ws a b (t .1)) (q .pack .n-some) a b (q .goalA) .0
 
     pub no-follows : verdict (linesOf s) P n m a b ≡ false → Follows (linesOf s) P a b → ⊥
-    no-follows e f = let q = question n m s ws a b (t .1) in never (decides (linesOf s) P n m (valid n m s ws a b (t .1)) (q .pack .n-some) a b (q .goalA) .1 f) e
+    no-follows e f = let q = asked n m s ws a b (t .1) in never (decides (linesOf s) P n m (asked-valid n m s ws a b (t .1)) (q .pack .n-some) a b (q .goalA) .1 f) e
 
 -- THE TURNS OF PICKING: of the marks given, those that are left, with the places below i settled
 abbrev pub Picking : List ℕ → List ℕ → ℕ → ℕ → List ℕ → ℕ → Type 0

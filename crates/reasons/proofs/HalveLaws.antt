@@ -5,15 +5,14 @@ use mathlib.Core.List.{List}
 use Prim.Native.Nat.{ℕ, _+_, _-_, _≤_, _<_}
 use native.Mathlib.Decide.{decLt}
 use native.Mathlib.Omega.{arith}
-use lib.ListN.{length}
 use Rattle.bits.specs.Sets.{lowest}
 use Rattle.bits.proofs.Truth.{never}
 use Rattle.marks.specs.Marks.{marked, marksOf, cutOut}
 use Rattle.marks.proofs.MarkLaws.{next-lowest}
 use Rattle.marks.proofs.CutLaws.{cut-before, cut-after, cut-gone, cut-fewer, cut-marked}
-use Rattle.marks.proofs.WordLaws.{marks-length}
 use Rattle.reasons.specs.Printed.{Within, IsPicked}
 use Rattle.reasons.specs.Inner.{Between, Next}
+use Rattle.marks.proofs.WordLaws.{sixteen-again}
 use Rattle.reasons.proofs.PickLaws.{Settled, Cut, cut-settled, cut-picked, kept-settled, settled-picked}
 
 -- the places of a range cut out
@@ -105,9 +104,6 @@ pub record Rest (len : ℕ) (F : (ℕ → Bool) → Type 0) (S : ℕ → Bool) (
   pub words : ws ≡ marksOf (marked ws)
   pub halved : Halved len F S (marked ws) i
 
-pub rest-sixteen : (ws : List ℕ) → ws ≡ marksOf (marked ws) → length ws ≡ 16
-rest-sixteen ws e = ap length e ∙ marks-length (marked ws)
-
 module _ (len : ℕ) (F : (ℕ → Bool) → Type 0) (mono : (P Q : ℕ → Bool) → Within len P Q → F P → F Q) (most : len ≤ 1024) (S : ℕ → Bool) (ws : List ℕ) where
   -- up to the next marked place
   pub rest-on : (i k : ℕ) → Rest len F S ws i → k ≡ lowest (marked ws) i (1024 - i) → Rest len F S ws k
@@ -116,7 +112,7 @@ module _ (len : ℕ) (F : (ℕ → Bool) → Type 0) (mono : (P Q : ℕ → Bool
   -- a turn of the loop
   pub rest-next : (i k : ℕ) → Rest len F S ws i → Next F (marked ws) i k → (ws′ : List ℕ) → ws′ ≡ marksOf (cutOut (marked ws) i k) → Rest len F S ws′ (k + 1)
   rest-next i k t x ws′ e =
-      let same : marked ws′ ≡ cutOut (marked ws) i k = ap marked e ∙ cut-marked ws i k (rest-sixteen ws (t .words)) in
+      let same : marked ws′ ≡ cutOut (marked ws) i k = ap marked e ∙ cut-marked ws i k (sixteen-again ws (t .words)) in
       record {
         words = e ∙ ap marksOf (sym same);
         halved = subst (λ (T : ℕ → Bool). Halved len F S T (k + 1)) (sym same) (halved-next len F mono S (marked ws) i (t .halved) most k x);

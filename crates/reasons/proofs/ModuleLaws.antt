@@ -17,9 +17,8 @@ use Rattle.pack.specs.declared.line.Line.the-variants.{Under, BothUnder, UnderS
 use Rattle.pack.specs.Question.{counted}
 use Rattle.pack.specs.Record.{linesOf, ValidLine, Valid}
 use Rattle.pack.specs.World.{lineAt}
-use Rattle.pack.proofs.QuestionLaws.{Asked, asked}
+use Rattle.pack.proofs.QuestionLaws.{Asked, asked, asked-valid}
 use Rattle.pack.proofs.RecordLaws.{lines-length}
-use Rattle.engine.proofs.VerdictLaws.{valid}
 use Rattle.reasons.specs.Reach.{Name, IsReached, moduleIn, IsModule, reached, moduleOf}
 use Rattle.reasons.specs.Names.{TakenOf, Unreached}
 use Rattle.reasons.specs.OutMarks.{checkReason}
@@ -49,7 +48,7 @@ module _ (n m : ℕ) (s ws : List ℕ) (a : ℕ) (taken : TakenOf n m s ws a) wh
   asked-of = asked n m s ws a (taken .0) (taken .1 .1)
 
   lines-right : Valid n m (linesOf s)
-  lines-right = valid n m s ws a (taken .0) (taken .1 .1)
+  lines-right = asked-valid n m s ws a (taken .0) (taken .1 .1)
 
   pub lines-widest : Valid 64 8 (linesOf s)
   lines-widest i h = line-most n m (asked-of .pack .n-most) (asked-of .pack .m-most) (lineAt (linesOf s) i) (lines-right i h)

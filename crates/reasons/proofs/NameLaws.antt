@@ -10,14 +10,15 @@ use lib.ListN.{length}
 use borrow.Author.Tests.{eqb-true, eq-eqb}
 use Rattle.bits.specs.Bit.{has}
 use Rattle.bits.specs.Sets.{countTo}
-use Rattle.bits.proofs.Truth.{and-true, true-and, or-elim, or-left, or-right, or-false, never, alike}
-use Rattle.bits.proofs.BitLaws.{has-with, has-ext, has-zero}
-use Rattle.bits.proofs.SetLaws.{Lowest, count-le, count-fewer, count-less}
+use Rattle.bits.proofs.Truth.{and-true, true-and, or-elim, or-left, or-right, or-false, never}
+use Rattle.bits.proofs.BitLaws.{has-with, has-zero}
+use Rattle.bits.proofs.SetLaws.{Lowest, count-le, count-fewer}
 use Rattle.pack.specs.declared.line.Line.{Line}
 use Rattle.pack.specs.World.{lineAt}
 use Rattle.reasons.specs.declared.reach.Names.{Names}
 use Rattle.reasons.specs.Reach.{Name, concept, role, leftNames, rightNames, allIn, Reaches, moduleIn, sameName}
 use Rattle.reasons.specs.Names.{nameIn, withName, withNames, withLine, Inside, Passed, Unreached}
+use Rattle.bits.proofs.RowLaws.{word-same}
 use Rattle.reasons.proofs.ReachLaws.{name-self, name-one}
 
 -- ONE NAME MORE: that name and those that were there
@@ -95,7 +96,7 @@ module _ (ls : List Line) (T : ℕ → Bool) (R : Name → Bool) where
   pub passed-start : {j : ℕ} → Lowest T 0 1024 j → Passed ls T T j R R
   passed-start {j} low = passed-on 0 j (low .none) (record { keeps = λ x h. h; fewer = λ i h. h; least = λ a Q r h. h; gone = λ i l h g. never h g; lacks = λ i l. absurd (omega arith) })
 
-  -- the line at a place that is left: t is whether its left side is reached
+  -- the line at a place that waits
   module _ (i : ℕ) (ns : Names) (T′ T″ : ℕ → Bool) (p : Passed ls T T′ i R (nameIn ns)) (there : i < length ls) (here : T′ i ≡ true)
       (off : (k : ℕ) → T″ k ≡ (T′ k && not (allIn (nameIn ns) (leftNames (lineAt ls i)) && eqb i k))) where
     line-fewer : (k : ℕ) → T″ k ≡ true → T′ k ≡ true
@@ -159,14 +160,6 @@ nameCount ns = countTo (has (ns .concepts)) 64 + countTo (has (ns .roles)) 64
 
 pub count-most : (ns : Names) → nameCount ns ≤ 128
 count-most ns = omega (arith, count-le (has (ns .concepts)) 64, count-le (has (ns .roles)) 64)
-
--- a word with as many bits as one inside it is that word
-word-same : (w v : ℕ) → w < 2 ^ 64 → v < 2 ^ 64 → ((j : ℕ) → has w j ≡ true → has v j ≡ true) → countTo (has v) 64 ≤ countTo (has w) 64 → w ≡ v
-word-same w v hw hv up few = has-ext 64 w v hw hv (λ j l. alike (has w j) (has v j) (up j) (back j l (has w j) refl))
-  where
-    back : (j : ℕ) → j < 64 → (t : Bool) → has w j ≡ t → has v j ≡ true → t ≡ true
-    back j l true e h = refl
-    back j l false e h = absurd (omega (arith, count-less (has w) (has v) up 64 j l e h))
 
 -- the test of the code: the words of both are the same
 abbrev pub SameWords : Names → Names → Bool

@@ -8,7 +8,7 @@ use native.Mathlib.Omega.{arith}
 use lib.ListN.{length}
 use Rattle.bits.proofs.Truth.{never}
 use Rattle.marks.specs.Marks.{marked, marksOf, cutOut}
-use Rattle.marks.proofs.WordLaws.{marks-length, marked-of, marks-alike}
+use Rattle.marks.proofs.WordLaws.{marks-length, marks-alike, marks-again}
 use Rattle.marks.proofs.CutLaws.{cut-gone, cut-fewer, cut-marked}
 use Rattle.pack.specs.declared.check.Checked.the-variants as checked
 use Rattle.pack.specs.declared.check.Refusal.{Refusal}
@@ -17,7 +17,7 @@ use Rattle.pack.specs.Record.{linesOf}
 use Rattle.pack.specs.World.{Follows}
 use Rattle.passes.specs.Passes.{verdict}
 use Rattle.engine.specs.Verdict.{askVerdict}
-use Rattle.engine.proofs.VerdictLaws.{question, valid}
+use Rattle.pack.proofs.QuestionLaws.{asked, asked-valid}
 use Rattle.reasons.specs.declared.set.SetAnswer.the-variants as answer
 use Rattle.reasons.specs.Names.{TakenOf}
 use Rattle.reasons.specs.Printed.{IsPicked, IsPrinted, without, spared, picked, printed}
@@ -29,10 +29,6 @@ use Rattle.reasons.proofs.PrintedLaws.{printed-is, printed-one}
 use Rattle.reasons.proofs.InsideLaws.{inside-true, module-follows, inside-printed}
 use Rattle.reasons.proofs.ModuleLaws.{none-past, marks-module, marks-past}
 use Rattle.reasons.proofs.AskLaws.{taken-sixteen, lines-most, fewer-taken}
-
--- words that mark a set of places mark what they mark
-pub marks-again : (P : ℕ → Bool) (ws : List ℕ) → ws ≡ marksOf P → ws ≡ marksOf (marked ws)
-marks-again P ws e = e ∙ marks-alike P (marked ws) (λ i l. sym (marked-of P i l) ∙ sym (ap (λ (v : List ℕ). marked v i) e))
 
 -- deletion only takes away
 module _ (D : (ℕ → Bool) → Bool) where
@@ -69,7 +65,7 @@ module _ (n m : ℕ) (s ws : List ℕ) (a b : ℕ) (t : Taken n m s ws a b) (f :
       go : (i : ℕ) → Dec (i < length (linesOf s)) → marked r i ≡ printed (linesOf s) (counted s ws) n m a b i
       go i (yes l) =
           printed-one (linesOf s) (counted s ws) a b (marked r) p (printed (linesOf s) (counted s ws) n m a b)
-          (printed-is (linesOf s) n m a b (valid n m s ws a b (t .1)) (question n m s ws a b (t .1) .pack .n-some) (question n m s ws a b (t .1) .goalA) (counted s ws) f) i l
+          (printed-is (linesOf s) n m a b (asked-valid n m s ws a b (t .1)) (asked n m s ws a b (t .1) .pack .n-some) (asked n m s ws a b (t .1) .goalA) (counted s ws) f) i l
       go i (no l) = past-none (marked r) fewer i (omega arith) ∙ sym (past-none (printed (linesOf s) (counted s ws) n m a b) printed-fewer i (omega arith))
 
   -- A EQUAL TO B: everything goes
@@ -104,12 +100,12 @@ module _ (n m : ℕ) (s ws : List ℕ) (a b : ℕ) (t : Taken n m s ws a b) (f :
 
     pub inside-follows : Follows (linesOf s) (marked inside) a b
     inside-follows =
-        module-follows (linesOf s) (counted s ws) n m a b (valid n m s ws a b (t .1)) (question n m s ws a b (t .1) .pack .n-some) (question n m s ws a b (t .1) .goalA) (marked inside) inside-module .0 f
+        module-follows (linesOf s) (counted s ws) n m a b (asked-valid n m s ws a b (t .1)) (asked n m s ws a b (t .1) .pack .n-some) (asked n m s ws a b (t .1) .goalA) (marked inside) inside-module .0 f
 
     pub inside-set : (r : List ℕ) → (r ≡ marksOf (marked r)) × ((i : ℕ) → marked r i ≡ true → marked inside i ≡ true) → IsPicked (length (linesOf s)) (λ P. Follows (linesOf s) P a b) (marked inside) (marked r) → r ≡ setMarks n m s ws a b
     inside-set r w p =
         set-words r (w .0) (λ i h. inside-fewer i (w .1 i h))
-        (inside-printed (linesOf s) (counted s ws) n m a b (valid n m s ws a b (t .1)) (question n m s ws a b (t .1) .pack .n-some) (question n m s ws a b (t .1) .goalA) (marked inside) inside-module (marked r) p)
+        (inside-printed (linesOf s) (counted s ws) n m a b (asked-valid n m s ws a b (t .1)) (asked n m s ws a b (t .1) .pack .n-some) (asked n m s ws a b (t .1) .goalA) (marked inside) inside-module (marked r) p)
 
 module _ (n m : ℕ) (s ws : List ℕ) (a b : ℕ) (out : List ℕ) where
   -- 1 TO 5: the out marks are as they were

@@ -12,8 +12,7 @@ use Rattle.pack.specs.declared.check.Checked.the-variants.{Count}
 use Rattle.pack.specs.Question.{counted, Taken}
 use Rattle.pack.specs.Record.{linesOf}
 use Rattle.pack.specs.World.{Follows}
-use Rattle.engine.specs.declared.verdict.VerdictAnswer.the-variants as verdict
-use Rattle.engine.proofs.VerdictLaws.{question, valid}
+use Rattle.pack.proofs.QuestionLaws.{asked, asked-valid}
 use Rattle.engine.proofs.VerdictRight.{verdict-right}
 use Rattle.reasons.specs.declared.set.SetAnswer.{SetAnswer}
 use Rattle.reasons.specs.declared.set.SetAnswer.the-variants as answer
@@ -47,11 +46,11 @@ module _ (n m : ℕ) (s ws : List ℕ) (a b : ℕ) (t : Taken n m s ws a b) (out
   -- THE OUT MARKS MARK THE ONE SET OF DOCUMENT 01'S ORDER
   pub set-printed : Follows (linesOf s) (counted s ws) a b → IsPrinted (linesOf s) (counted s ws) a b (marked (writtenSet n m s ws a b out))
   set-printed f =
-      let q = question n m s ws a b (t .1) in
+      let q = asked n m s ws a b (t .1) in
       rw (set-found f .0)
       (picked-same (length (linesOf s)) (λ P. Follows (linesOf s) P a b) (follows-more (linesOf s) a b) (counted s ws) (counted s ws) (printed (linesOf s) (counted s ws) n m a b) (marked (setMarks n m s ws a b)) (λ i l. refl)
       (λ i l. sym (marked-of (printed (linesOf s) (counted s ws) n m a b) i (omega (arith, lines-most n m s ws a b t))))
-      (printed-is (linesOf s) n m a b (valid n m s ws a b (t .1)) (q .pack .n-some) (q .goalA) (counted s ws) f))
+      (printed-is (linesOf s) n m a b (asked-valid n m s ws a b (t .1)) (q .pack .n-some) (q .goalA) (counted s ws) f))
 
   -- AND WITH ANY ONE OF ITS RECORDS TAKEN OUT THE GOAL NO LONGER FOLLOWS
   pub set-needs : Follows (linesOf s) (counted s ws) a b → (i : ℕ) → i < length (linesOf s) → marked (writtenSet n m s ws a b out) i ≡ true → Follows (linesOf s) (without (marked (writtenSet n m s ws a b out)) i) a b → ⊥

@@ -33,7 +33,7 @@ abbrev pub Inside : (Name → Bool) → (Name → Bool) → Type 0
 Inside R R′ = (x : Name) → R x ≡ true → R′ x ≡ true
 
 -- what a pass over the lines of T before place k makes of R and T: no name is lost, none comes that a set which `Reaches`
--- can lack; of the places that are gone both sides are in R′, and of those that are left the left side was not in R
+-- can lack; of the places that are gone both sides are in R′, and of those that wait still the left side was not in R
 pub record Passed (ls : List Line) (T T′ : ℕ → Bool) (k : ℕ) (R R′ : Name → Bool) : Type 0 where
   pub keeps : Inside R R′
   pub fewer : (i : ℕ) → T′ i ≡ true → T i ≡ true

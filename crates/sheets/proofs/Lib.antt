@@ -1,2 +1,3 @@
--- Both checks together.
-pub mod Verdicts
+-- Both checks together, and that the promises of their calls fix the results.
+pub mod Both
+pub mod Promises

@@ -1,3 +1,3 @@
 -- The numbers of the checks' answers, and what their C calls return.
 pub mod Answers
-pub mod Desk
+pub mod Calls

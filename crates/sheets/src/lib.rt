@@ -1,3 +1,3 @@
-// The two sheet checks for C, and that no goal has an accepted sheet of either sort.
+// The two sheet checks for C. That no goal has accepted sheets of both sorts is in proofs/.
+pub mod calls;
 pub mod code;
-pub mod desk;

@@ -1,4 +1,4 @@
--- Our verdict is right, our sheets are accepted, and no second result satisfies a promise of the engine.
+-- Our sheets are accepted, what the writer says is so of what it wrote, and no second result keeps its promise.
 use mathlib.Core.Path.{_≡_, refl, sym, ap, ap₂, _∙_, subst, fun-ext}
 use mathlib.Core.Logic.{_⊎_, inl, inr}
 use mathlib.Core.Bool.{Bool, true, false, cond, _&&_}
@@ -31,15 +31,15 @@ use Rattle.yes.proofs.YesLaws.{yes-accepts}
 use Rattle.no.specs.declared.check.NoAnswer.the-variants as no
 use Rattle.no.specs.NoSheet.{rowAt, thingsIn, noLengthFits, forbidden, worldOf, checkNo}
 use Rattle.no.proofs.NoLaws.{no-accepts}
-use Rattle.sheets.proofs.Verdicts.{never-both}
+use Rattle.sheets.proofs.Both.{never-both}
 use Rattle.passes.specs.Ours.{ourSteps, ourRows}
 use Rattle.passes.proofs.PassLaws.{not-free-most}
 use Rattle.passes.proofs.YesLaws.{ours-good, ours-usable, ours-known, ours-most}
 use Rattle.passes.proofs.NoLaws.{rows-length, rows-small, ourWorld, rows-obey, rows-refute}
 use Rattle.sweep.specs.Writing.{stepBytes}
-use Rattle.engine.specs.declared.verdict.VerdictAnswer.the-variants as verdicts
 use Rattle.engine.specs.Verdict.{follows}
-use Rattle.engine.proofs.VerdictLaws.{question, valid, too-long-never}
+use Rattle.pack.proofs.QuestionLaws.{asked, asked-valid}
+use Rattle.engine.proofs.VerdictLaws.{too-long-never}
 use Rattle.writer.specs.declared.write.SheetAnswer.{SheetAnswer}
 use Rattle.writer.specs.declared.write.SheetAnswer.the-variants as sheets
 use Rattle.writer.specs.Sheet.{yesBytes, noBytes, ourSheet, sheetAnswer, sheetAfter, askSheet, sheetOut, writtenSheet}
@@ -104,12 +104,12 @@ module _ (n m : ℕ) (s ws : List ℕ) (a b : ℕ) {k : ℕ} (taken : checkQuest
       let sheet = flatten (map stepBytes ss) in
       let d : Step = record { place = 0; x = 0; y = 0; z = 0 } in
       let l = parts-length stepBytes (λ s. refl) ss in
-      let most = ours-most ls S n m a b (valid n m s ws a b taken) (question n m s ws a b taken .goalA) h in
-      let few = not-free-most n m (question n m s ws a b taken .pack .n-most) (question n m s ws a b taken .pack .m-most) in
-      let size = question n m s ws a b taken .pack .size in
+      let most = ours-most ls S n m a b (asked-valid n m s ws a b taken) (asked n m s ws a b taken .goalA) h in
+      let few = not-free-most n m (asked n m s ws a b taken .pack .n-most) (asked n m s ws a b taken .pack .m-most) in
+      let size = asked n m s ws a b taken .pack .size in
       let lines = lines-length s in
       let small : (i : ℕ) → i < length ss → getD ss i d .place < 65536 =
-      λ i g. (let p = ours-usable ls S n m a b (valid n m s ws a b taken) (question n m s ws a b taken .goalA) h i d g .there in omega arith) in
+      λ i g. (let p = ours-usable ls S n m a b (asked-valid n m s ws a b taken) (asked n m s ws a b taken .goalA) h i d g .there in omega arith) in
       let all : stepsOf sheet ≡ ss = steps-of ss d small in
       yes-accepts n m s ws a b sheet taken
       (true-and (eqb (length sheet % 8) 0) (leb (length sheet) 524288) (eq-eqb (length sheet % 8) 0 (omega arith)) (le-leb (length sheet) 524288 (omega arith)))
@@ -119,8 +119,8 @@ module _ (n m : ℕ) (s ws : List ℕ) (a b : ℕ) {k : ℕ} (taken : checkQuest
       true-and (zerosIn (part sheet i)) (goodOver ls S n (known ls n (take i (stepsOf sheet))) (stepIn (part sheet i)))
       (ap zerosIn p ∙ zeros-in (getD ss i d))
       (ap₂ (λ (before : List Step) (step : Step). goodOver ls S n (known ls n (take i before)) step) all (ap stepIn p ∙ step-in (getD ss i d) (small i there))
-      ∙ ours-good ls S n m a b (valid n m s ws a b taken) (question n m s ws a b taken .goalA) h i d there))
-      (ap (λ (steps : List Step). known ls n steps (In a b)) all ∙ ours-known ls S n m a b (valid n m s ws a b taken) (question n m s ws a b taken .goalA) h)
+      ∙ ours-good ls S n m a b (asked-valid n m s ws a b taken) (asked n m s ws a b taken .goalA) h i d there))
+      (ap (λ (steps : List Step). known ls n steps (In a b)) all ∙ ours-known ls S n m a b (asked-valid n m s ws a b taken) (asked n m s ws a b taken .goalA) h)
 
   -- and our no sheet where it does not
   pub ours-no : follows n m s ws a b ≡ false → checkNo n m s ws a b (noBytes n m s ws) ≡ no.Accepted
@@ -128,13 +128,13 @@ module _ (n m : ℕ) (s ws : List ℕ) (a b : ℕ) {k : ℕ} (taken : checkQuest
   ours-no h =
       let ls = linesOf s in
       let S = counted s ws in
-      let few = question n m s ws a b taken .pack .n-most in
-      let there = question n m s ws a b taken .goalA in
+      let few = asked n m s ws a b taken .pack .n-most in
+      let there = asked n m s ws a b taken .goalA in
       let world = sym (no-world n m s ws few) in
       let things = no-things n m s ws few in
-      let goal = rows-refute ls S n m (valid n m s ws a b taken) a b (question n m s ws a b taken .goalA) (question n m s ws a b taken .goalB) h in
-      no-accepts n m s ws a b (noBytes n m s ws) taken (no-fits n m s ws few (question n m s ws a b taken .pack .n-some)) (λ i _. no-clean n m s ws few i)
-      (subst (λ (w : World). Obeys w ls S) world (rows-obey ls S n m (valid n m s ws a b taken)))
+      let goal = rows-refute ls S n m (asked-valid n m s ws a b taken) a b (asked n m s ws a b taken .goalA) (asked n m s ws a b taken .goalB) h in
+      no-accepts n m s ws a b (noBytes n m s ws) taken (no-fits n m s ws few (asked n m s ws a b taken .pack .n-some)) (λ i _. no-clean n m s ws few i)
+      (subst (λ (w : World). Obeys w ls S) world (rows-obey ls S n m (asked-valid n m s ws a b taken)))
       a (omega arith)
       (subst (λ (w : World). Is w a a) world (goal .0))
       (subst (λ (w : World). w .isIn a b ≡ false) world (goal .1))
@@ -151,11 +151,11 @@ module _ (n m : ℕ) (s ws : List ℕ) (a b : ℕ) {k : ℕ} (taken : checkQuest
 module _ (n m : ℕ) (s ws : List ℕ) (a b : ℕ) (sheet : List ℕ) where
   -- what an answer shows, and the sheet afterwards: the steps or rows are as many as ours, and so many parts of the sheet are accepted
   abbrev pub Shows : SheetAnswer → List ℕ → Type 0
-  Shows (sheets.Refused why) left = checkQuestion n m s ws a b ≡ checked.Refused why
-  Shows sheets.TooLong left = ⊥
-  Shows (sheets.NoRoom k) left = (k ≡ length (ourSheet n m s ws a b)) × (length sheet < k)
-  Shows (sheets.Follows j) left = (j ≡ length (ourSteps (linesOf s) (counted s ws) n m a b)) × (checkYes n m s ws a b (take (8 * j) left) ≡ yes.Accepted)
-  Shows (sheets.Not j) left = (j ≡ length (ourRows (linesOf s) (counted s ws) n m)) × (checkNo n m s ws a b (take (8 * j) left) ≡ no.Accepted)
+  Shows (sheets.Refused why) after = checkQuestion n m s ws a b ≡ checked.Refused why
+  Shows sheets.TooLong after = ⊥
+  Shows (sheets.NoRoom k) after = (k ≡ length (ourSheet n m s ws a b)) × (length sheet < k)
+  Shows (sheets.Follows j) after = (j ≡ length (ourSteps (linesOf s) (counted s ws) n m a b)) × (checkYes n m s ws a b (take (8 * j) after) ≡ yes.Accepted)
+  Shows (sheets.Not j) after = (j ≡ length (ourRows (linesOf s) (counted s ws) n m)) × (checkNo n m s ws a b (take (8 * j) after) ≡ no.Accepted)
 
   -- WHAT THE WRITER SAYS IS SO OF WHAT IT WROTE
   pub joined : Shows (askSheet n m s ws a b sheet) (writtenSheet n m s ws a b sheet)
@@ -163,15 +163,15 @@ module _ (n m : ℕ) (s ws : List ℕ) (a b : ℕ) (sheet : List ℕ) where
   joined = after (checkQuestion n m s ws a b) refl
     where
       shown : {k : ℕ} → checkQuestion n m s ws a b ≡ checked.Count k → (t room : Bool) → follows n m s ws a b ≡ t → leb (length (cond t (yesBytes n m s ws a b) (noBytes n m s ws))) (length sheet) ≡ room
-          → let ours = cond t (yesBytes n m s ws a b) (noBytes n m s ws) in let r = sheetAnswer t (length ours / 8) room in Shows r (sheetOut r ours sheet)
+          → let ours = cond t (yesBytes n m s ws a b) (noBytes n m s ws) in let r = sheetAnswer t (cond t (length (ourSteps (linesOf s) (counted s ws) n m a b)) (length (ourRows (linesOf s) (counted s ws) n m))) room in Shows r (sheetOut r ours sheet)
       shown e true true f g =
           let ours = yesBytes n m s ws a b in
           let l = yes-length n m s ws a b in
-          (omega arith, ap (checkYes n m s ws a b) (take-at ours (drop (length ours) sheet) (8 * (length ours / 8)) (omega arith)) ∙ ours-yes n m s ws a b e f)
+          (refl, ap (checkYes n m s ws a b) (take-at ours (drop (length ours) sheet) (8 * length (ourSteps (linesOf s) (counted s ws) n m a b)) (omega arith)) ∙ ours-yes n m s ws a b e f)
       shown e false true f g =
           let ours = noBytes n m s ws in
           let l = no-length n m s ws in
-          (omega arith, ap (checkNo n m s ws a b) (take-at ours (drop (length ours) sheet) (8 * (length ours / 8)) (omega arith)) ∙ ours-no n m s ws a b e f)
+          (refl, ap (checkNo n m s ws a b) (take-at ours (drop (length ours) sheet) (8 * length (ourRows (linesOf s) (counted s ws) n m)) (omega arith)) ∙ ours-no n m s ws a b e f)
       shown e true false f g =
           let l = yes-length n m s ws a b in
           let less = leb-false (length (yesBytes n m s ws a b)) (length sheet) g in

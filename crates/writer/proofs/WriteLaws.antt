@@ -26,7 +26,7 @@ use Rattle.pack.specs.declared.line.Step.{Step}
 use Rattle.pack.specs.Question.{counted, checkQuestion}
 use Rattle.pack.specs.Record.{linesOf}
 use Rattle.pack.specs.Rules.{free}
-use Rattle.pack.proofs.QuestionLaws.{Asked}
+use Rattle.pack.proofs.QuestionLaws.{Asked, asked}
 use Rattle.tables.specs.Tables.{held, heldIn, heldLink}
 use Rattle.passes.specs.Saturation.{holds}
 use Rattle.passes.specs.Passes.{el, finished, table}
@@ -38,7 +38,7 @@ use Rattle.sweep.specs.Inner.{Agree}
 use Rattle.sweep.specs.Writing.{stepBytes}
 use Rattle.engine.specs.Verdict.{follows}
 use Rattle.engine.specs.Inner.{Ran}
-use Rattle.engine.proofs.VerdictLaws.{question, too-long-never, end-held, end-not}
+use Rattle.engine.proofs.VerdictLaws.{too-long-never, end-held, end-not}
 use Rattle.writer.specs.declared.write.SheetAnswer.{SheetAnswer}
 use Rattle.writer.specs.declared.write.SheetAnswer.the-variants as answer
 use Rattle.writer.specs.Sheet.{wordBytes, yesBytes, noBytes, ourSheet, sheetAnswer, sheetOut, askSheet, writtenSheet}
@@ -97,11 +97,16 @@ module _ (n m : ℕ) (s ws : List ℕ) (a b : ℕ) {c : ℕ} (taken : checkQuest
     whole : ourSheet n m s ws a b ≡ ours
     whole = ap (λ (t : Bool). cond t (yesBytes n m s ws a b) (noBytes n m s ws)) said ∙ sym is
 
+    parts-are : cond positive (length (ourSteps (linesOf s) (counted s ws) n m a b)) (length (ourRows (linesOf s) (counted s ws) n m)) ≡ parts
+    parts-are = go positive is
+      where
+        go : (t : Bool) → ours ≡ cond t (yesBytes n m s ws a b) (noBytes n m s ws) → cond t (length (ourSteps (linesOf s) (counted s ws) n m a b)) (length (ourRows (linesOf s) (counted s ws) n m)) ≡ parts
+        go true e = omega (arith, ap length e, long, yes-length n m s ws a b)
+        go false e = omega (arith, ap length e, long, no-length n m s ws)
+
     asked-parts : askSheet n m s ws a b sheet ≡ sheetAnswer positive parts (leb (parts * 8) (length sheet))
     unfolding askSheet
-    asked-parts =
-        let d : parts * 8 / 8 ≡ parts = omega arith in
-        rw (taken, too-long-never n m s ws a b taken, said, sym is, long, d)
+    asked-parts = rw (taken, too-long-never n m s ws a b taken, said, sym is, long, parts-are)
 
     pub too-short : length sheet < parts * 8 → Answers (answer.NoRoom (parts * 8)) sheet
     unfolding writtenSheet
@@ -186,7 +191,7 @@ module _ (n m : ℕ) (s ws : List ℕ) (a b : ℕ) {c : ℕ} (taken : checkQuest
   pub same-sheet : a ≡ b → Answers n m s ws a b taken sheet (answer.Follows 0) sheet
   unfolding yesBytes follows flatten
   same-sheet e =
-      let q = question n m s ws a b taken in
+      let q = asked n m s ws a b taken in
       let none : ourSteps (linesOf s) (counted s ws) n m a b ≡ [] = ours-none (linesOf s) (counted s ws) n m a b (eq-eqb a b e) in
       let empty : [] ≡ yesBytes n m s ws a b = sym (ap (λ (l : List Step). flatten (map stepBytes l)) none) in
       long-enough n m s ws a b taken sheet true (goal-free (linesOf s) (counted s ws) n m a b (eq-eqb a b e) (q .goalA)) [] 0 empty refl (omega arith)
@@ -226,7 +231,7 @@ module _ (n m : ℕ) (s ws : List ℕ) (a b : ℕ) {c : ℕ} (taken : checkQuest
   no-sheet differ blank cs lks blank′ k ran h {r} {after} e f words = go (decLt (length sheet) (n * (1 + m) * 8))
     where
       q : Asked n m s ws a b c
-      q = question n m s ws a b taken
+      q = asked n m s ws a b taken
 
       end : (follows n m s ws a b ≡ false) × Agree n m (free n) (linesOf s) blank (finished (linesOf s) (counted s ws) n m) cs lks blank′ k
       end = end-not n m s ws a b taken differ blank cs lks blank′ k ran h

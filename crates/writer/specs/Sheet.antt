@@ -7,7 +7,7 @@ use lib.ListN.{length, drop}
 use Rattle.bits.specs.Lists.{listed}
 use Rattle.pack.specs.declared.check.Checked.{Checked}
 use Rattle.pack.specs.declared.check.Checked.the-variants as checked
-use Rattle.pack.specs.Answers.{refusalNumber}
+use Rattle.pack.specs.Answers.{refusalNumber, refusalPlace}
 use Rattle.pack.specs.Question.{counted, checkQuestion}
 use Rattle.pack.specs.Record.{linesOf}
 use Rattle.passes.specs.Ours.{ourSteps, ourRows}
@@ -31,6 +31,13 @@ noBytes n m s ws = flatten (map wordBytes (ourRows (linesOf s) (counted s ws) n 
 abbrev pub ourSheet : ℕ → ℕ → List ℕ → List ℕ → ℕ → ℕ → List ℕ
 ourSheet n m s ws a b = cond (follows n m s ws a b) (yesBytes n m s ws a b) (noBytes n m s ws)
 
+-- its steps or rows, of 8 bytes each
+abbrev pub ourParts : ℕ → ℕ → List ℕ → List ℕ → ℕ → ℕ → ℕ
+ourParts n m s ws a b =
+    cond (follows n m s ws a b)
+    (length (ourSteps (linesOf s) (counted s ws) n m a b))
+    (length (ourRows (linesOf s) (counted s ws) n m))
+
 -- 8 NO ROOM with the bytes needed, else FOLLOWS with the steps or NOT with the rows
 abbrev pub sheetAnswer : Bool → ℕ → Bool → SheetAnswer
 sheetAnswer positive parts room = cond room (cond positive (answer.Follows parts) (answer.Not parts)) (answer.NoRoom (8 * parts))
@@ -40,7 +47,7 @@ abbrev pub sheetAfter : Checked → ℕ → ℕ → List ℕ → List ℕ → �
 sheetAfter (checked.Refused why) n m s ws a b sheet = answer.Refused why
 sheetAfter (checked.Count k) n m s ws a b sheet =
     cond (tooLong n m s ws) answer.TooLong
-    (sheetAnswer (follows n m s ws a b) (length (ourSheet n m s ws a b) / 8) (leb (length (ourSheet n m s ws a b)) (length sheet)))
+    (sheetAnswer (follows n m s ws a b) (ourParts n m s ws a b) (leb (length (ourSheet n m s ws a b)) (length sheet)))
 
 unfoldable pub askSheet : ℕ → ℕ → List ℕ → List ℕ → ℕ → ℕ → List ℕ → SheetAnswer
 askSheet n m s ws a b sheet = sheetAfter (checkQuestion n m s ws a b) n m s ws a b sheet
@@ -56,10 +63,17 @@ sheetOut (answer.Not k) ours sheet = ours ++ drop (length ours) sheet
 unfoldable pub writtenSheet : ℕ → ℕ → List ℕ → List ℕ → ℕ → ℕ → List ℕ → List ℕ
 writtenSheet n m s ws a b sheet = sheetOut (askSheet n m s ws a b sheet) (ourSheet n m s ws a b) sheet
 
--- document 01's table: the number of each answer; each holds its own value, the bytes needed, the steps or the rows
+-- document 01's table: the number, and the value that comes back with it
 abbrev pub sheetNumber : SheetAnswer → ℕ
 sheetNumber (answer.Refused why) = refusalNumber why
 sheetNumber answer.TooLong = 6
 sheetNumber (answer.NoRoom k) = 8
 sheetNumber (answer.Follows k) = 0
 sheetNumber (answer.Not k) = 0
+
+abbrev pub sheetValue : SheetAnswer → ℕ
+sheetValue (answer.Refused why) = refusalPlace why
+sheetValue answer.TooLong = 0
+sheetValue (answer.NoRoom k) = k
+sheetValue (answer.Follows k) = k
+sheetValue (answer.Not k) = k

@@ -21,8 +21,7 @@ use Rattle.pack.specs.Question.{counted}
 use Rattle.pack.specs.Rules.{premiseOneOf, premiseTwoOf, conclusion, conclusionOf, usesY, usesZ, Fits, Usable}
 use Rattle.pack.proofs.RecordLaws.{lines-length, lines-at}
 use Rattle.tables.specs.Tables.{inTable, addedConcepts, addedLinks}
-use Rattle.yes.specs.YesSheet.{stepIn, numberFits, usable, goodOver}
-use Rattle.yes.specs.Inner.{numbersFit, premisesKnown}
+use Rattle.yes.specs.YesSheet.{stepIn, numberFits, usable, goodOver, numbersFit, premisesKnown}
 
 -- THE TESTS OF THE CODE: the place counts, and the numbers and the premises are right for the line l there
 module _ (pack p : List ℕ) {s : Step} {l : Line} (e : s ≡ stepIn p) (f : l ≡ lineAtPlace pack (s .place)) where

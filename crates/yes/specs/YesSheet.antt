@@ -13,7 +13,7 @@ use Rattle.pack.specs.declared.line.Fact.the-variants.{In}
 use Rattle.pack.specs.declared.line.Line.{Line}
 use Rattle.pack.specs.declared.line.Step.{Step}
 use Rattle.pack.specs.World.{lineAt}
-use Rattle.pack.specs.Rules.{premiseOneOf, premiseTwoOf, conclusionOf, usesY, usesZ, free, sameFact}
+use Rattle.pack.specs.Rules.{premiseOne, premiseTwo, conclusionOf, usesY, usesZ, free, sameFact}
 use Rattle.pack.specs.Bytes.{littleEndian, part}
 use Rattle.pack.specs.Record.{linesOf}
 use Rattle.pack.specs.Question.{counted, checkQuestion}
@@ -45,15 +45,21 @@ abbrev pub numberFits : Bool → ℕ → ℕ → Bool
 numberFits true n y = ltb y n
 numberFits false n y = eqb y 0
 
+-- the numbers of a step fit a line
+abbrev pub numbersFit : Line → ℕ → Step → Bool
+numbersFit l n s = ltb (s .x) n && (numberFits (usesY l) n (s .y) && numberFits (usesZ l) n (s .z))
+
 -- the place is one of S, and the numbers fit the line there
 unfoldable pub usable : List Line → (ℕ → Bool) → ℕ → Step → Bool
-usable ls S n s =
-    (ltb (s .place) (length ls) && S (s .place))
-    && (ltb (s .x) n && (numberFits (usesY (lineAt ls (s .place))) n (s .y) && numberFits (usesZ (lineAt ls (s .place))) n (s .z)))
+usable ls S n s = (ltb (s .place) (length ls) && S (s .place)) && numbersFit (lineAt ls (s .place)) n s
+
+-- the premises of a line at a step are known
+abbrev pub premisesKnown : Line → (Fact → Bool) → Step → Bool
+premisesKnown l K s = K (premiseOne l (s .x) (s .y)) && K (premiseTwo l (s .x) (s .y) (s .z))
 
 -- a step is good over what is known: it is usable, and its premises are known
 unfoldable pub goodOver : List Line → (ℕ → Bool) → ℕ → (Fact → Bool) → Step → Bool
-goodOver ls S n K s = usable ls S n s && (K (premiseOneOf ls s) && K (premiseTwoOf ls s))
+goodOver ls S n K s = usable ls S n s && premisesKnown (lineAt ls (s .place)) K s
 
 -- step i of a sheet is good: its zeros are zero, and each premise is free or concluded by an earlier step
 unfoldable pub goodAt : List Line → (ℕ → Bool) → ℕ → List ℕ → ℕ → Bool

@@ -4,7 +4,7 @@ use mathlib.Core.Path.{_≡_, refl, sym, _∙_}
 use Prim.Native.Nat.{_≤_, _-_}
 use native.Mathlib.Nat.{sub-zero}
 use native.Mathlib.Omega.{arith}
-use Rattle.pack.specs.Pack.{lowestBroken}
+use Rattle.pack.specs.Pack.{lowestUnkept}
 use Rattle.pack.specs.Record.{recordCount}
 use Rattle.pack.proofs.PackLaws.{brokenFrom, broken-on, broken-here, broken-none}
 use Rattle.pack.proofs.check.check_records.Statement.{statement}
@@ -12,7 +12,7 @@ use Rattle.pack.proofs.check.check_records.Tie as tie
 
 abbrev Inv-loop : tie.InvT-loop
 Inv-loop n m pack count i₀ i =
-    (i ≤ count) × (count ≡ recordCount pack) × (brokenFrom n m pack i ≡ lowestBroken n m pack)
+    (i ≤ count) × (count ≡ recordCount pack) × (brokenFrom n m pack i ≡ lowestUnkept n m pack)
 
 abbrev μ-loop : tie.MeasureT-loop
 μ-loop n m pack count i₀ i = count - i

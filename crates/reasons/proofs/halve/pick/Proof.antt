@@ -6,8 +6,7 @@ use native.Mathlib.Omega.{arith}
 use lib.ListN.{length}
 use borrow.Author.Needs.{needs}
 use Rattle.marks.proofs.MarkLaws.{next-lowest}
-use Rattle.marks.proofs.WordLaws.{marks-length}
-use Rattle.reasons.proofs.HalveLaws.{rest-sixteen}
+use Rattle.marks.proofs.WordLaws.{marks-length, sixteen-again}
 use Rattle.reasons.proofs.AskLaws.{fewer-taken, Picking, pick-start, pick-next, pick-end}
 use Rattle.reasons.proofs.halve.pick.Statement.{statement}
 use Rattle.reasons.proofs.halve.pick.Tie as tie
@@ -19,7 +18,7 @@ abbrev μ-loop : tie.MeasureT-loop
 μ-loop n m pack a b rest₀ i₀ rest i = 1024 - i
 
 slice-aggregate-next-marked : tie.Need-slice-aggregate-next-marked Inv-loop μ-loop
-slice-aggregate-next-marked c = sym (rest-sixteen _ (c .before .before .pre .2))
+slice-aggregate-next-marked c = sym (sixteen-again _ (c .before .before .pre .2))
 
 next-marked-requires : tie.Need-next-marked-requires Inv-loop μ-loop
 next-marked-requires c κs = search needs
@@ -28,16 +27,16 @@ loop-holds : tie.Need-loop-holds Inv-loop μ-loop
 loop-holds c = let pre = c .before .before .before .pre in pick-start _ _ _ _ _ _ (pre .0) _ (pre .2) (pre .3) (c .next-marked .ensures)
 
 slice-aggregate-next-kept : tie.Need-slice-aggregate-next-kept Inv-loop μ-loop
-slice-aggregate-next-kept c = sym (rest-sixteen _ (c .before .before .loop .inv .words))
+slice-aggregate-next-kept c = sym (sixteen-again _ (c .before .before .loop .inv .words))
 
 next-kept-requires : tie.Need-next-kept-requires Inv-loop μ-loop
 next-kept-requires c κs =
     let pre = c .before .before .before .before .before .before .pre in
     let l = c .before .before .loop in
-    (fewer-taken _ _ _ _ _ _ (pre .0) _ (rest-sixteen _ (l .inv .words)) (l .inv .halved .fewer), pre .1, omega arith, l .inv .halved .holds)
+    (fewer-taken _ _ _ _ _ _ (pre .0) _ (sixteen-again _ (l .inv .words)) (l .inv .halved .fewer), pre .1, omega arith, l .inv .halved .holds)
 
 slice-aggregate-cut-marks : tie.Need-slice-aggregate-cut-marks Inv-loop μ-loop
-slice-aggregate-cut-marks c = sym (rest-sixteen _ (c .before .before .before .before .loop .inv .words))
+slice-aggregate-cut-marks c = sym (sixteen-again _ (c .before .before .before .before .loop .inv .words))
 
 cut-marks-requires : tie.Need-cut-marks-requires Inv-loop μ-loop
 cut-marks-requires c κs = search needs

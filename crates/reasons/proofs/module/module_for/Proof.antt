@@ -1,4 +1,4 @@
--- `module_for`: the question's refusal, marks out as they were (`module-refused`), or the module (`module-taken`).
+-- `module_for`: the question's refusal, out marks as they were (`module-refused`), or the module (`module-taken`).
 use mathlib.Core.Path.{sym, _∙_}
 use borrow.Author.Needs.{needs}
 use Rattle.reasons.proofs.ModuleLaws.{module-taken, module-refused}

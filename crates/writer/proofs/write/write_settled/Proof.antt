@@ -5,7 +5,8 @@ use native.Mathlib.Omega.{arith}
 use lib.ListN.{length, length-reverse}
 use borrow.Author.Needs.{needs}
 use Rattle.tables.specs.Tables.{held}
-use Rattle.engine.proofs.VerdictLaws.{question, end-few, end-held}
+use Rattle.pack.proofs.QuestionLaws.{asked}
+use Rattle.engine.proofs.VerdictLaws.{end-few, end-held}
 use Rattle.writer.proofs.WriteLaws.{no-sheet}
 use Rattle.writer.proofs.write.write_settled.Statement.{statement}
 use Rattle.writer.proofs.write.write_settled.Tie as tie
@@ -20,10 +21,10 @@ returns : tie.Need-returns
 returns c = absurd (end-few _ _ _ _ _ _ (c .before .before .before .before .before .before .before .pre .0) (c .before .before .before .before .before .before .before .pre .1) _ _ _ _ _ (c .before .before .settle .ensures) (c .if1 .taken))
 
 cast-in-held : tie.Need-cast-in-held
-cast-in-held c = omega (arith, question _ _ _ _ _ _ (c .before .before .before .before .before .before .before .before .before .before .before .pre .0) .goalA, question _ _ _ _ _ _ (c .before .before .before .before .before .before .before .before .before .before .before .pre .0) .pack .n-most)
+cast-in-held c = omega (arith, asked _ _ _ _ _ _ (c .before .before .before .before .before .before .before .before .before .before .before .pre .0) .goalA, asked _ _ _ _ _ _ (c .before .before .before .before .before .before .before .before .before .before .before .pre .0) .pack .n-most)
 
 cast-in-held-2 : tie.Need-cast-in-held-2
-cast-in-held-2 c = omega (arith, question _ _ _ _ _ _ (c .before .before .before .before .before .before .before .before .before .before .before .pre .0) .goalB, question _ _ _ _ _ _ (c .before .before .before .before .before .before .before .before .before .before .before .pre .0) .pack .n-most)
+cast-in-held-2 c = omega (arith, asked _ _ _ _ _ _ (c .before .before .before .before .before .before .before .before .before .before .before .pre .0) .goalB, asked _ _ _ _ _ _ (c .before .before .before .before .before .before .before .before .before .before .before .pre .0) .pack .n-most)
 
 in-held-requires : tie.Need-in-held-requires
 in-held-requires c κs = search needs
@@ -48,7 +49,7 @@ returns-2 c = c .before .before .write-yes .ensures
 
 write-no-requires : tie.Need-write-no-requires
 write-no-requires c κs =
-    let q = question _ _ _ _ _ _ (c .before .before .before .before .before .before .before .before .before .before .before .before .before .before .before .before .pre .0) in
+    let q = asked _ _ _ _ _ _ (c .before .before .before .before .before .before .before .before .before .before .before .before .before .before .before .before .pre .0) in
     (q .pack .n-some, q .pack .n-most, q .pack .m-most)
 
 same-length-2 : tie.Need-same-length-2

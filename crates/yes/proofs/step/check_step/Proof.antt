@@ -11,8 +11,7 @@ use Rattle.pack.specs.Record.{linesOf}
 use Rattle.pack.specs.Question.{counted}
 use Rattle.pack.specs.Rules.{conclusion, conclusionOf}
 use Rattle.tables.specs.Tables.{held}
-use Rattle.yes.specs.YesSheet.{stepIn, zerosIn, goodOver}
-use Rattle.yes.specs.Inner.{numbersFit, premisesKnown}
+use Rattle.yes.specs.YesSheet.{stepIn, zerosIn, goodOver, numbersFit, premisesKnown}
 use Rattle.yes.proofs.StepLaws.{good-parts, concludes}
 use Rattle.yes.proofs.step.check_step.Statement.{statement}
 use Rattle.yes.proofs.step.check_step.Tie as tie

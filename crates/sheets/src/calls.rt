@@ -1,6 +1,6 @@
 // The two checks for C: numbers and byte slices, the marks as 128 bytes.
 ghost use mathlib.Core.Path.{_≡_};
-ghost use Rattle.sheets.specs.Desk.{yesCode, noCode};
+ghost use Rattle.sheets.specs.Calls.{yesCode, noCode};
 use crate::code::no_code;
 use crate::code::yes_code;
 use no::check::check_no;

@@ -1,9 +1,9 @@
 -- `noolukask_check_yes`: 128 bytes of marks are 16 words, others are none; then the code of what `check_yes` answers.
 use borrow.Author.Needs.{needs}
 use borrow.Author.Tests.{eq-eqb, ne-eqb}
-use Rattle.sheets.specs.Desk.{yesCode}
-use Rattle.sheets.proofs.desk.noolukask_check_yes.Statement.{statement}
-use Rattle.sheets.proofs.desk.noolukask_check_yes.Tie as tie
+use Rattle.sheets.specs.Calls.{yesCode}
+use Rattle.sheets.proofs.calls.noolukask_check_yes.Statement.{statement}
+use Rattle.sheets.proofs.calls.noolukask_check_yes.Tie as tie
 
 read-marks-requires : tie.Need-read-marks-requires
 read-marks-requires c κs = search needs

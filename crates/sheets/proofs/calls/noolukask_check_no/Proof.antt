@@ -1,9 +1,9 @@
 -- `noolukask_check_no`: 128 bytes of marks are 16 words, others are none; then the code of what `check_no` answers.
 use borrow.Author.Needs.{needs}
 use borrow.Author.Tests.{ne-eqb, eq-eqb}
-use Rattle.sheets.specs.Desk.{noCode}
-use Rattle.sheets.proofs.desk.noolukask_check_no.Statement.{statement}
-use Rattle.sheets.proofs.desk.noolukask_check_no.Tie as tie
+use Rattle.sheets.specs.Calls.{noCode}
+use Rattle.sheets.proofs.calls.noolukask_check_no.Statement.{statement}
+use Rattle.sheets.proofs.calls.noolukask_check_no.Tie as tie
 
 read-marks-requires : tie.Need-read-marks-requires
 read-marks-requires c κs = search needs
