@@ -144,7 +144,7 @@ has-ext k a b ha hb e =
     bit-ext k a b ha hb (λ j l. bit-has a j ∙ ap (λ (t : Bool). cond t 1 0) (e j l) ∙ sym (bit-has b j))
 
 -- a word with no bit is 0
-pub has-none : (k a : ℕ) → a < 2 ^ k → ((j : ℕ) → j < k → has a j ≡ false) → a ≡ 0
+has-none : (k a : ℕ) → a < 2 ^ k → ((j : ℕ) → j < k → has a j ≡ false) → a ≡ 0
 has-none k a h e = has-ext k a 0 h (pow-pos k) (λ j l. e j l ∙ sym (has-zero j))
 
 -- a power of two has one bit

@@ -25,7 +25,7 @@ row-lt (suc n) p = go (p n) (row-lt n p)
     go true h = or-lt (suc n) (row n p) (2 ^ n) (omega (arith, pow-suc 2 n)) (omega (arith, pow-suc 2 n, pow-pos n))
     go false h = omega (arith, pow-suc 2 n)
 
-pub row-high : (n : ℕ) (p : ℕ → Bool) (j : ℕ) → n ≤ j → has (row n p) j ≡ false
+row-high : (n : ℕ) (p : ℕ → Bool) (j : ℕ) → n ≤ j → has (row n p) j ≡ false
 row-high n p j h = has-high n (row n p) j (row-lt n p) h
 
 -- BIT j IS SET where p j

@@ -58,7 +58,7 @@ module _ (ws out₀ : List ℕ) (sixteen : length ws ≡ 16) (all : length out�
   filled-end = rw (take-all 16 ws (omega arith), drop-of-length-le out₀ {i = 128} (omega arith)) (append-nil (wordsBytes ws))
 
 -- THE BYTES OF 16 WORDS, handed back as marks in, ARE THOSE WORDS
-pub bytes-back : (ws : List ℕ) → length ws ≡ 16 → ((j : ℕ) → j < 16 → getD ws j 0 < 2 ^ 64) → marksIn (wordsBytes ws) ≡ ws
+bytes-back : (ws : List ℕ) → length ws ≡ 16 → ((j : ℕ) → j < 16 → getD ws j 0 < 2 ^ 64) → marksIn (wordsBytes ws) ≡ ws
 unfolding wordsIn wordsBytes
 bytes-back ws sixteen small =
     let bytes = flatten (map wordBytes ws) in
@@ -73,14 +73,14 @@ bytes-back ws sixteen small =
     ∙ word-in (getD ws j 0) (small j l)))
 
 -- bytes of the right length are 16 words
-pub read-length : (out : List ℕ) → length out ≡ 128 → length (marksIn out) ≡ 16
+read-length : (out : List ℕ) → length out ≡ 128 → length (marksIn out) ≡ 16
 unfolding wordsIn
 read-length out h = rw (eq-eqb (length out) 128 h) (listed-length (λ j. wordIn (part out j)) 16 0)
 
 -- OF A CALL WITH OUT MARKS, whose answer goes by their length alone: what it makes of 16 words of any content is what it makes of the bytes
 module _ {A : Type 0} (outOf : A → List ℕ → List ℕ → List ℕ) (again : (t : A) (ours blank after : List ℕ) → outOf t (wordsBytes (outOf t ours blank)) after ≡ outOf t (wordsBytes ours) after) (number value : A → ℕ)
     (ask : List ℕ → List ℕ → A) (ours : List ℕ → List ℕ) (same-length : (ws out out′ : List ℕ) → length out ≡ length out′ → ask ws out ≡ ask ws out′) (marks out : List ℕ) where
-  pub call-read : {r : ℕ} {answer : A} {after found : List ℕ} (blank : List ℕ) → length marks ≡ 128 → length out ≡ 128 → length blank ≡ 16
+  call-read : {r : ℕ} {answer : A} {after found : List ℕ} (blank : List ℕ) → length marks ≡ 128 → length out ≡ 128 → length blank ≡ 16
       → answer ≡ ask (wordsIn marks) blank → found ≡ outOf (ask (wordsIn marks) blank) (ours (wordsIn marks)) blank
       → r ≡ deskCode (number answer) (value answer) → after ≡ outOf answer (wordsBytes found) out
       → (r ≡ deskCode (number (ask (marksIn marks) (marksIn out))) (value (ask (marksIn marks) (marksIn out)))) × (after ≡ outOf (ask (marksIn marks) (marksIn out)) (wordsBytes (ours (marksIn marks))) out)

@@ -23,7 +23,7 @@ use Rattle.reasons.proofs.SetLaws.{set-refused}
 use Rattle.desk.specs.Desk.{checkedCode, questionCode, verdictCode, sheetCode, moduleCode, moduleBytes, setCode, setBytes}
 
 -- bytes of another length are no words
-pub no-words : (marks : List ℕ) → (length marks ≡ 128 → ⊥) → marksIn marks ≡ []
+no-words : (marks : List ℕ) → (length marks ≡ 128 → ⊥) → marksIn marks ≡ []
 no-words marks d = rw (ne-eqb (length marks) 128 d)
 
 -- no words fit no pack
@@ -35,7 +35,7 @@ unread-refused n m s a b = go (checkQuestion n m s [] a b) refl
     go (Count k) e = absurd (let six = asked n m s [] a b e .marks .sixteen in omega arith)
 
 -- the test of the code: marks in or out are not 128 bytes
-abbrev pub Unread : List ℕ → List ℕ → Bool
+abbrev Unread : List ℕ → List ℕ → Bool
 Unread marks out = not (eqb (length marks) 128) || not (eqb (length out) 128)
 
 none-fit : (marks out : List ℕ) → Unread marks out ≡ true → (count : ℕ) → (marksFit (marksIn marks) count && eqb (length (marksIn out)) 16) ≡ false

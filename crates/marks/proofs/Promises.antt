@@ -32,7 +32,7 @@ pub marks-without-fixed : (ws vs r r′ : List ℕ) → r ≡ marksOf (λ i. mar
 marks-without-fixed ws vs r r′ = no-second
 
 -- words of 64 bits that are as many and mark the same places are the same
-pub marks-ext : (r r′ : List ℕ) → length r ≡ length r′ → ((j : ℕ) → j < length r → getD r j 0 < 2 ^ 64) → ((j : ℕ) → j < length r → getD r′ j 0 < 2 ^ 64) → ((k : ℕ) → marked r k ≡ marked r′ k) → r ≡ r′
+marks-ext : (r r′ : List ℕ) → length r ≡ length r′ → ((j : ℕ) → j < length r → getD r j 0 < 2 ^ 64) → ((j : ℕ) → j < length r → getD r′ j 0 < 2 ^ 64) → ((k : ℕ) → marked r k ≡ marked r′ k) → r ≡ r′
 marks-ext r r′ e small small′ same =
     ext-getD 0 r r′ e
     (λ j l. has-ext 64 (getD r j 0) (getD r′ j 0) (small j l) (small′ j l)

@@ -20,7 +20,7 @@ module _ (P : ℕ → Bool) where
   marks-length = listed-length (λ j. row 64 (λ i. P (j * 64 + i))) 16 0
 
   -- word j is the row of its 64 places
-  pub marks-word : (j : ℕ) → j < 16 → getD (marksOf P) j 0 ≡ row 64 (λ i. P (j * 64 + i))
+  marks-word : (j : ℕ) → j < 16 → getD (marksOf P) j 0 ≡ row 64 (λ i. P (j * 64 + i))
   unfolding marksOf
   marks-word j h = listed-at (λ j. row 64 (λ i. P (j * 64 + i))) 0 16 0 j h ∙ ap (λ (k : ℕ). row 64 (λ i. P (k * 64 + i))) (omega arith)
 
@@ -39,7 +39,7 @@ module _ (P : ℕ → Bool) where
   marked-past i h = unmarked-past (marksOf P) i (omega (arith, marks-length))
 
   -- THERE IS ONE SUCH LIST of 16 words
-  pub marks-same : (ws : List ℕ) → length ws ≡ 16 → ((j : ℕ) → j < 16 → getD ws j 0 < 2 ^ 64) → ((i : ℕ) → i < 1024 → marked ws i ≡ P i) → ws ≡ marksOf P
+  marks-same : (ws : List ℕ) → length ws ≡ 16 → ((j : ℕ) → j < 16 → getD ws j 0 < 2 ^ 64) → ((i : ℕ) → i < 1024 → marked ws i ≡ P i) → ws ≡ marksOf P
   marks-same ws len small same =
       ext-getD 0 ws (marksOf P) (len ∙ sym marks-length) (λ j l. word j (omega arith) ∙ sym (marks-word j (omega arith)))
     where

@@ -28,7 +28,7 @@ use Rattle.no.specs.NoSheet.{rowAt, rowsOf, thingsIn, noLengthFits, forb
 use Rattle.no.specs.Inner.{ThingsFit, RoleFits, LineFits, LinesFit}
 
 -- the rows: k, and k for each role
-pub rows-are : (m k : ℕ) → rowsOf m k ≡ k + m * k
+rows-are : (m k : ℕ) → rowsOf m k ≡ k + m * k
 rows-are m k = mul-add k 1 m ∙ rw (mul-one k, mul-comm k m)
 
 pub rows-few : (m k : ℕ) → m ≤ 8 → k ≤ 64 → rowsOf m k ≤ 576
@@ -90,14 +90,14 @@ all-rows n m k sheet e h =
     omega (arith, zero-add (rowsOf m k))
 
 -- the two tests of a world
-pub refuting : (w : World) (a b : ℕ) → refutes w a b ≡ true → (x : ℕ) × (x < w .things) × Is w x a × (w .isIn x b ≡ false)
+refuting : (w : World) (a b : ℕ) → refutes w a b ≡ true → (x : ℕ) × (x < w .things) × Is w x a × (w .isIn x b ≡ false)
 unfolding refutes
 refuting w a b h =
     let e = some-true (λ x. w .isIn x a && not (w .isIn x b)) (w .things) h in
     let p = and-true (w .isIn (e .0) a) (not (w .isIn (e .0) b)) (e .2) in
     (e .0, e .1, p .0, not-true (w .isIn (e .0) b) (p .1))
 
-pub refuted : (w : World) (a b x : ℕ) → x < w .things → Is w x a → w .isIn x b ≡ false → refutes w a b ≡ true
+refuted : (w : World) (a b x : ℕ) → x < w .things → Is w x a → w .isIn x b ≡ false → refutes w a b ≡ true
 unfolding refutes
 refuted w a b x l p q = true-some (λ x. w .isIn x a && not (w .isIn x b)) (w .things) x l (rw (p, q))
 
@@ -110,10 +110,10 @@ module _ (w : World) (ls : List Line) (S : ℕ → Bool) where
   kept : (i : ℕ) → S i ≡ true → (S i && not (obeys w (lineAt ls i))) ≡ false → obeys w (lineAt ls i) ≡ true
   kept i s e = not-false (obeys w (lineAt ls i)) (sym (ap (λ (t : Bool). t && not (obeys w (lineAt ls i))) s) ∙ e)
 
-  pub none-broken : length ls ≤ lowestBroken w ls S → Obeys w ls S
+  none-broken : length ls ≤ lowestBroken w ls S → Obeys w ls S
   none-broken h i l s = obeys-line w (lineAt ls i) (kept i s (first .none i (omega arith) (omega arith)))
 
-  pub obeyed : Obeys w ls S → lowestBroken w ls S ≡ length ls
+  obeyed : Obeys w ls S → lowestBroken w ls S ≡ length ls
   unfolding lowestBroken
   obeyed o = none-lowest (λ i. S i && not (obeys w (lineAt ls i))) 0 (length ls) (λ i g l. at i (omega (arith, zero-add (length ls))) (S i) refl) ∙ zero-add (length ls)
     where

@@ -14,7 +14,7 @@ use crate::thing::world_refutes;
 use marks::look::is_marked;
 use pack::check::Checked;
 use pack::check::Refusal;
-use pack::check::line_at;
+use pack::line::line_at;
 use pack::question::check_question;
 
 // What the no check answers.

@@ -43,7 +43,7 @@ case : (P : Line → Type 0) (t : Bool) {k k′ : Bool} {l l′ : Line} → (k �
 case P true f g h = f h
 case P false f g h = g h
 
-pub keeps-valid : (n m kind a b c : ℕ) → keeps n m kind a b c ≡ true → ValidLine n m (lineOf kind a b c)
+keeps-valid : (n m kind a b c : ℕ) → keeps n m kind a b c ≡ true → ValidLine n m (lineOf kind a b c)
 keeps-valid n m kind a b c =
     case (ValidLine n m) (eqb kind 1) {l = Under a b} (λ h. let p = two h in (p .0, p .1))
     (case (ValidLine n m) (eqb kind 2) {l = BothUnder a b c} three

@@ -28,12 +28,12 @@ use Rattle.passes.proofs.PassLaws.{BuiltSteps, steps-most, finished-bui
 use Rattle.passes.proofs.StopLaws.{said-reverse, reached-said, first-reached, ours-reached, ours-none}
 
 -- what the yes check calls concluded and known is what the passes say and hold
-pub concluded-said : (ls : List Line) (ss : List Step) (f : Fact) → concluded ls ss f ≡ said (el ls) ss f
+concluded-said : (ls : List Line) (ss : List Step) (f : Fact) → concluded ls ss f ≡ said (el ls) ss f
 unfolding concluded said
 concluded-said ls [] f = refl
 concluded-said ls (s ∷ ss) f = ap (λ (t : Bool). sameFact (conclusionOf ls s) f || t) (concluded-said ls ss f)
 
-pub known-holds : (ls : List Line) (n : ℕ) (st : List Step) (f : Fact) → known ls n (reverse st) f ≡ holds (el ls) (free n) st f
+known-holds : (ls : List Line) (n : ℕ) (st : List Step) (f : Fact) → known ls n (reverse st) f ≡ holds (el ls) (free n) st f
 unfolding known holds
 known-holds ls n st f = ap (λ (t : Bool). free n f || t) (concluded-said ls (reverse st) f ∙ said-reverse ls st f)
 
@@ -41,7 +41,7 @@ number-fits : (t : Bool) (n y : ℕ) → Fits t n y → numberFits t n y ≡ tru
 number-fits true n y h = lt-ltb y n h
 number-fits false n y h = eq-eqb y 0 h
 
-pub usable-true : (ls : List Line) (S : ℕ → Bool) (n : ℕ) (s : Step) → Usable ls S n s → usable ls S n s ≡ true
+usable-true : (ls : List Line) (S : ℕ → Bool) (n : ℕ) (s : Step) → Usable ls S n s → usable ls S n s ≡ true
 unfolding usable
 usable-true ls S n s u =
     let l = lineAt ls (s .place) in
@@ -55,7 +55,7 @@ usable-true ls S n s u =
 
 -- step i of a list in pass order, and the steps before it
 module _ {A : Type 0} where
-  pub reverse-at : (st : List A) (i : ℕ) (d : A) → i < length st → (old : List A) × (take i (reverse st) ≡ reverse old) × Later (getD (reverse st) i d ∷ old) st
+  reverse-at : (st : List A) (i : ℕ) (d : A) → i < length st → (old : List A) × (take i (reverse st) ≡ reverse old) × Later (getD (reverse st) i d ∷ old) st
   reverse-at [] i d h = absurd (omega arith)
   reverse-at (s ∷ st) i d h = rw (reverse-cons s st) (go (decLt i (length st)) (reverse-at st i d))
     where
@@ -71,7 +71,7 @@ module _ {A : Type 0} where
 
 module _ (ls : List Line) (S : ℕ → Bool) (n : ℕ) where
   -- EVERY STEP IS GOOD over the steps before it
-  pub steps-good : (st : List Step) → BuiltSteps (free n) ls S n st → (i : ℕ) (d : Step) → i < length st
+  steps-good : (st : List Step) → BuiltSteps (free n) ls S n st → (i : ℕ) (d : Step) → i < length st
       → Usable ls S n (getD (reverse st) i d) × (goodOver ls S n (known ls n (take i (reverse st))) (getD (reverse st) i d) ≡ true)
   unfolding Built goodOver
   steps-good st b i d h =
@@ -92,7 +92,7 @@ pub record OurList (ls : List Line) (S : ℕ → Bool) (n m a b : ℕ) : Type 0 
   pub goal : holds (el ls) (free n) list (In a b) ≡ true
 
 module _ (ls : List Line) (S : ℕ → Bool) (n m a b : ℕ) (valid : Valid n m ls) (ha : a < n) (h : verdict ls S n m a b ≡ true) where
-  pub our-list : OurList ls S n m a b
+  our-list : OurList ls S n m a b
   unfolding verdict table holds free Built
   our-list = go (eqb a b) refl
     where

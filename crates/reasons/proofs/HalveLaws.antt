@@ -24,7 +24,7 @@ pub record Halved (len : ℕ) (F : (ℕ → Bool) → Type 0) (S T : ℕ → Boo
   pub fewer : (j : ℕ) → T j ≡ true → S j ≡ true
   pub holds : F T
   pub settled : Settled len F i T
-  pub picks : (P : ℕ → Bool) → IsPicked len F T P → IsPicked len F S P
+  picks : (P : ℕ → Bool) → IsPicked len F T P → IsPicked len F S P
 
 module _ (len : ℕ) (F : (ℕ → Bool) → Type 0) (mono : (P Q : ℕ → Bool) → Within len P Q → F P → F Q) where
   pub halved-start : (S : ℕ → Bool) → F S → Halved len F S S 0
@@ -32,7 +32,7 @@ module _ (len : ℕ) (F : (ℕ → Bool) → Type 0) (mono : (P Q : ℕ → Bool
 
   module _ (S T : ℕ → Bool) (i : ℕ) (t : Halved len F S T i) where
     -- places that nothing is left of are settled
-    pub halved-on : (k : ℕ) → ((j : ℕ) → i ≤ j → j < k → T j ≡ false) → Halved len F S T k
+    halved-on : (k : ℕ) → ((j : ℕ) → i ≤ j → j < k → T j ≡ false) → Halved len F S T k
     halved-on k none = record { fewer = t .fewer; holds = t .holds; settled = λ Q w f j h l e. go Q w f j h l e (decLt j i); picks = t .picks }
       where
         go : (Q : ℕ → Bool) → Within len Q T → F Q → (j : ℕ) → j < k → j < len → T j ≡ true → Dec (j < i) → Q j ≡ true

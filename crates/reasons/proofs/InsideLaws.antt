@@ -116,7 +116,7 @@ module _ (ls : List Line) (n m a b : ℕ) (valid : Valid n m ls) (pos : 1 ≤ n)
       true-inside ls S R i (w i l h) (inside-true ls P R i q .1)
 
 module _ (ls : List Line) (S : ℕ → Bool) (n m a b : ℕ) (valid : Valid n m ls) (pos : 1 ≤ n) (ha : a < n) (M : ℕ → Bool) (im : IsModule ls S a M) where
-  pub module-within : Within (length ls) M S
+  module-within : Within (length ls) M S
   module-within i l h = inside-true ls S (im .names) i (sym (im .places i l) ∙ h) .0
 
   -- THE GOAL FOLLOWS EXACTLY WHERE IT FOLLOWS FROM THE MODULE

@@ -28,7 +28,7 @@ use Rattle.reasons.proofs.ReachLaws.{module-is, module-one}
 
 module _ (ls : List Line) (S : ℕ → Bool) (R : Name → Bool) where
   -- a place that is not marked is not in the module
-  pub outside-unmarked : (i : ℕ) → S i ≡ false → moduleIn ls S R i ≡ false
+  outside-unmarked : (i : ℕ) → S i ≡ false → moduleIn ls S R i ≡ false
   unfolding moduleIn
   outside-unmarked i h = rw h
 
@@ -63,7 +63,7 @@ module _ (n m : ℕ) (s ws : List ℕ) (a : ℕ) (taken : TakenOf n m s ws a) wh
   module-past i h = outside-unmarked (linesOf s) (counted s ws) (reached (linesOf s) (counted s ws) n m a) i (none-past i h)
 
   -- THE WORDS FOUND WITH THE REACHED NAMES are those of the module, however the names were found
-  pub names-module : (R : Name → Bool) → IsReached (linesOf s) (counted s ws) a R → marksOf (moduleIn (linesOf s) (counted s ws) R) ≡ moduleMarks n m s ws a
+  names-module : (R : Name → Bool) → IsReached (linesOf s) (counted s ws) a R → marksOf (moduleIn (linesOf s) (counted s ws) R) ≡ moduleMarks n m s ws a
   names-module R r = marks-alike (moduleIn ls S R) (moduleOf ls S n m a) (λ i _. go i (decLt i (length ls)))
     where
       ls : List Line

@@ -162,7 +162,7 @@ pub count-most : (ns : Names) → nameCount ns ≤ 128
 count-most ns = omega (arith, count-le (has (ns .concepts)) 64, count-le (has (ns .roles)) 64)
 
 -- the test of the code: the words of both are the same
-abbrev pub SameWords : Names → Names → Bool
+abbrev SameWords : Names → Names → Bool
 SameWords ms ns = eqb (ms .concepts) (ns .concepts) && eqb (ms .roles) (ns .roles)
 
 pub names-same : (ms ns : Names) → SameWords ms ns ≡ true → ms ≡ ns

@@ -16,16 +16,16 @@ module _ (S : ℕ → Bool) (i : ℕ) where
   unfolding without
   without-true j h = let p = and-true (S j) (not (eqb j i)) h in (p .0, eqb-false j i (not-true (eqb j i) (p .1)))
 
-  pub without-other : (j : ℕ) → (j ≡ i → ⊥) → without S i j ≡ S j
+  without-other : (j : ℕ) → (j ≡ i → ⊥) → without S i j ≡ S j
   unfolding without
   without-other j h = rw (ne-eqb j i h) (and-yes (S j))
 
-  pub without-self : without S i i ≡ false
+  without-self : without S i i ≡ false
   unfolding without
   without-self = rw (eq-eqb i i refl) (and-false (S i) false refl)
 
   -- a subset that lacks the place
-  pub without-within : (len : ℕ) (Q : ℕ → Bool) → Within len Q S → Q i ≡ false → Within len Q (without S i)
+  without-within : (len : ℕ) (Q : ℕ → Bool) → Within len Q S → Q i ≡ false → Within len Q (without S i)
   without-within len Q w e j l h = without-other j (λ z. never h (ap Q z ∙ e)) ∙ w j l h
 
 module _ (len : ℕ) (F : (ℕ → Bool) → Type 0) (S P : ℕ → Bool) (p : IsPicked len F S P) where
@@ -64,7 +64,7 @@ pub record Cut (len i k : ℕ) (T T′ : ℕ → Bool) : Type 0 where
   pub after : (j : ℕ) → k ≤ j → j < len → T′ j ≡ T j
 
 module _ (len i k : ℕ) (T T′ : ℕ → Bool) (cut : Cut len i k T T′) where
-  pub cut-within : Within len T′ T
+  cut-within : Within len T′ T
   cut-within j l h = go (decLt j i) (decLt j k)
     where
       go : Dec (j < i) → Dec (j < k) → T j ≡ true
@@ -72,7 +72,7 @@ module _ (len i k : ℕ) (T T′ : ℕ → Bool) (cut : Cut len i k T T′) wher
       go (no p) (yes q) = never h (cut .gone j (omega arith) q)
       go (no p) (no q) = sym (cut .after j (omega arith) l) ∙ h
 
-  pub within-cut : (Q : ℕ → Bool) → Within len Q T → ((j : ℕ) → i ≤ j → j < k → j < len → Q j ≡ false) → Within len Q T′
+  within-cut : (Q : ℕ → Bool) → Within len Q T → ((j : ℕ) → i ≤ j → j < k → j < len → Q j ≡ false) → Within len Q T′
   within-cut Q w lacks j l h = go (decLt j i) (decLt j k)
     where
       go : Dec (j < i) → Dec (j < k) → T′ j ≡ true
@@ -129,7 +129,7 @@ settled-picked len F T settled f = record { within = λ i l h. h; holds = f; lac
     go Q w g i d true e = absurd (d .here (e ∙ sym (settled Q w g i (d .inside) (d .inside) e)))
     go Q w g i d false e = refl
 
-pub without-cut : (len i : ℕ) (S : ℕ → Bool) → Cut len i (i + 1) S (without S i)
+without-cut : (len i : ℕ) (S : ℕ → Bool) → Cut len i (i + 1) S (without S i)
 without-cut len i S = record {
   gone = λ j g h. let z : j ≡ i = omega arith in ap (without S i) z ∙ without-self S i;
   before = λ j g. without-other S i j (omega arith);

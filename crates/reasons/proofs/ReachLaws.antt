@@ -198,7 +198,7 @@ module _ (ls : List Line) (S : ℕ → Bool) (n m a : ℕ) (valid : Valid n m ls
   }
 
   -- WHAT SATURATION REACHES IS THE SMALLEST SET: sound and closed
-  pub reached-is : IsReached ls S a (reached ls S n m a)
+  reached-is : IsReached ls S a (reached ls S n m a)
   unfolding reached
   reached-is =
       let pass = reachPass ls S a in
@@ -217,7 +217,7 @@ module _ (ls : List Line) (S : ℕ → Bool) (n m a : ℕ) (valid : Valid n m ls
 pub reached-one : (ls : List Line) (S : ℕ → Bool) (a : ℕ) (R R′ : Name → Bool) → IsReached ls S a R → IsReached ls S a R′ → (x : Name) → R x ≡ R′ x
 reached-one ls S a R R′ r r′ x = alike (R x) (R′ x) (r .least R′ (r′ .reaches) x) (r′ .least R (r .reaches) x)
 
-pub all-same : (R R′ : Name → Bool) → ((x : Name) → R x ≡ R′ x) → (xs : List Name) → allIn R xs ≡ allIn R′ xs
+all-same : (R R′ : Name → Bool) → ((x : Name) → R x ≡ R′ x) → (xs : List Name) → allIn R xs ≡ allIn R′ xs
 unfolding allIn
 all-same R R′ h [] = refl
 all-same R R′ h (x ∷ xs) = rw (h x, all-same R R′ h xs)

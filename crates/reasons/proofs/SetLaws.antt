@@ -59,7 +59,7 @@ module _ (n m : ℕ) (s ws : List ℕ) (a b : ℕ) (t : Taken n m s ws a b) (f :
       go false e = refl
 
   -- WORDS THAT MARK A PRINTED SET are the words of the printed set
-  pub set-words : (r : List ℕ) → r ≡ marksOf (marked r) → ((i : ℕ) → marked r i ≡ true → counted s ws i ≡ true) → IsPrinted (linesOf s) (counted s ws) a b (marked r) → r ≡ setMarks n m s ws a b
+  set-words : (r : List ℕ) → r ≡ marksOf (marked r) → ((i : ℕ) → marked r i ≡ true → counted s ws i ≡ true) → IsPrinted (linesOf s) (counted s ws) a b (marked r) → r ≡ setMarks n m s ws a b
   set-words r e fewer p = e ∙ marks-alike (marked r) (printed (linesOf s) (counted s ws) n m a b) (λ i _. go i (decLt i (length (linesOf s))))
     where
       go : (i : ℕ) → Dec (i < length (linesOf s)) → marked r i ≡ printed (linesOf s) (counted s ws) n m a b i

@@ -86,10 +86,10 @@ module _ (n m : ℕ) (s ws : List ℕ) (few : n ≤ 64) where
       no-things (fun-ext no-rows)
 
 -- some yes sheet is accepted, and some no sheet
-abbrev pub SomeYes : ℕ → ℕ → List ℕ → List ℕ → ℕ → ℕ → Type 0
+abbrev SomeYes : ℕ → ℕ → List ℕ → List ℕ → ℕ → ℕ → Type 0
 SomeYes n m s ws a b = (sheet : List ℕ) × (checkYes n m s ws a b sheet ≡ yes.Accepted)
 
-abbrev pub SomeNo : ℕ → ℕ → List ℕ → List ℕ → ℕ → ℕ → Type 0
+abbrev SomeNo : ℕ → ℕ → List ℕ → List ℕ → ℕ → ℕ → Type 0
 SomeNo n m s ws a b = (sheet : List ℕ) × (checkNo n m s ws a b sheet ≡ no.Accepted)
 
 -- a question that is taken
@@ -150,7 +150,7 @@ module _ (n m : ℕ) (s ws : List ℕ) (a b : ℕ) {k : ℕ} (taken : checkQuest
 -- the sheet writer
 module _ (n m : ℕ) (s ws : List ℕ) (a b : ℕ) (sheet : List ℕ) where
   -- what an answer shows, and the sheet afterwards: the steps or rows are as many as ours, and so many parts of the sheet are accepted
-  abbrev pub Shows : SheetAnswer → List ℕ → Type 0
+  abbrev Shows : SheetAnswer → List ℕ → Type 0
   Shows (sheets.Refused why) after = checkQuestion n m s ws a b ≡ checked.Refused why
   Shows sheets.TooLong after = ⊥
   Shows (sheets.NoRoom k) after = (k ≡ length (ourSheet n m s ws a b)) × (length sheet < k)

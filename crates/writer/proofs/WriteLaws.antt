@@ -115,7 +115,7 @@ module _ (n m : ℕ) (s ws : List ℕ) (a b : ℕ) {c : ℕ} (taken : checkQuest
         asked-parts ∙ rw (lt-leb (parts * 8) (length sheet) h) (ap answer.NoRoom (mul-comm 8 parts)) in
         (sym e, rw e)
 
-    pub long-enough : parts * 8 ≤ length sheet → Answers (cond positive (answer.Follows parts) (answer.Not parts)) (ours ++ drop (parts * 8) sheet)
+    long-enough : parts * 8 ≤ length sheet → Answers (cond positive (answer.Follows parts) (answer.Not parts)) (ours ++ drop (parts * 8) sheet)
     unfolding writtenSheet
     long-enough h = go positive refl
       where
@@ -177,7 +177,7 @@ module _ (n m : ℕ) (ls : List Line) (S : ℕ → Bool) (blank cs lks sheet : L
           let there : n + (r * n + x) ≡ i = omega (arith, div-add-mod' (i - n) n) in
           rw e (link-row r x lr lm lx w ∙ sym (row-links ls S n m r x lr lx) ∙ ap (λ (j : ℕ). getD (ourRows ls S n m) j 0) there)
 
-  pub our-rows : m ≤ 8 → listed (n * (1 + m)) 0 (rowIn n cs lks) ≡ ourRows ls S n m
+  our-rows : m ≤ 8 → listed (n * (1 + m)) 0 (rowIn n cs lks) ≡ ourRows ls S n m
   our-rows lm =
       ext-getD 0 (listed (n * (1 + m)) 0 (rowIn n cs lks)) (ourRows ls S n m)
       (listed-length (rowIn n cs lks) (n * (1 + m)) 0 ∙ sym (ours.rows-length ls S n m))

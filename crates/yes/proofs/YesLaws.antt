@@ -57,11 +57,11 @@ module _ (ls : List Line) (n : ℕ) where
       ∙ sym (or-assoc (sameFact (conclusionOf ls t) f) (concluded ls ss f) (sameFact (conclusionOf ls s) f))
 
   -- WHAT IS KNOWN: at first what is free, and after each step its conclusion too
-  pub known-first : (sheet : List ℕ) (f : Fact) → known ls n (take 0 (stepsOf sheet)) f ≡ free n f
+  known-first : (sheet : List ℕ) (f : Fact) → known ls n (take 0 (stepsOf sheet)) f ≡ free n f
   unfolding known concluded
   known-first sheet f = or-false (free n f)
 
-  pub known-more : (sheet : List ℕ) (i : ℕ) → i < length sheet / 8 → (f : Fact)
+  known-more : (sheet : List ℕ) (i : ℕ) → i < length sheet / 8 → (f : Fact)
       → known ls n (take (i + 1) (stepsOf sheet)) f ≡ (known ls n (take i (stepsOf sheet)) f || sameFact (conclusionOf ls (stepIn (part sheet i))) f)
   unfolding known
   known-more sheet i h f =
@@ -71,15 +71,15 @@ module _ (ls : List Line) (n : ℕ) where
       ∙ ap (λ (u : Bool). free n f || u) (concluded-more ss s f)
       ∙ sym (or-assoc (free n f) (concluded ls ss f) (sameFact (conclusionOf ls s) f))
 
-  pub known-last : (sheet : List ℕ) (i : ℕ) → length sheet / 8 ≤ i → (f : Fact) → known ls n (take i (stepsOf sheet)) f ≡ known ls n (stepsOf sheet) f
+  known-last : (sheet : List ℕ) (i : ℕ) → length sheet / 8 ≤ i → (f : Fact) → known ls n (take i (stepsOf sheet)) f ≡ known ls n (stepsOf sheet) f
   known-last sheet i h f = ap (λ (u : List Step). known ls n u f) (take-all i (stepsOf sheet) (omega (arith, steps-length sheet)))
 
 module _ (ls : List Line) (S : ℕ → Bool) (n : ℕ) (sheet : List ℕ) where
-  abbrev pub failsAt : ℕ → Bool
+  abbrev failsAt : ℕ → Bool
   failsAt j = not (goodAt ls S n sheet j)
 
   -- the search from step i on, as the code goes
-  abbrev pub badFrom : ℕ → ℕ
+  abbrev badFrom : ℕ → ℕ
   badFrom i = lowest failsAt i (length sheet / 8 - i)
 
   -- THE RUN OF THE CODE, before step i: every step passed is good, and the rows hold what is known
@@ -171,7 +171,7 @@ module _ (ls : List Line) (S : ℕ → Bool) (n : ℕ) (sheet : List ℕ) where
       h₂ (record { all = λ i h. before-bad i (omega arith); goal = f })
   answer C a b false false e f h₁ h₂ h₃ = h₃
 
-  pub accepted-good : (a b : ℕ) → checkSteps ls S n a b sheet ≡ yes.Accepted → AllGood a b
+  accepted-good : (a b : ℕ) → checkSteps ls S n a b sheet ≡ yes.Accepted → AllGood a b
   unfolding checkSteps
   accepted-good a b =
       answer (λ r. r ≡ yes.Accepted → AllGood a b) a b (ltb (lowestBad ls S n sheet) (length sheet / 8)) (known ls n (stepsOf sheet) (In a b)) refl refl
@@ -179,13 +179,13 @@ module _ (ls : List Line) (S : ℕ → Bool) (n : ℕ) (sheet : List ℕ) where
       (λ g _. g)
       (λ e. let z : _≡_ {A = ℕ} 0 1 = cc in absurd (omega arith))
 
-  pub good-accepted : {a b : ℕ} → AllGood a b → checkSteps ls S n a b sheet ≡ yes.Accepted
+  good-accepted : {a b : ℕ} → AllGood a b → checkSteps ls S n a b sheet ≡ yes.Accepted
   unfolding checkSteps lowestBad
   good-accepted {a} {b} g =
       let none = none-lowest failsAt 0 (length sheet / 8) (λ j h l. ap not (g .all j (omega (arith, zero-add (length sheet / 8))))) in
       rw (le-ltb (lowestBad ls S n sheet) (length sheet / 8) (omega arith), g .goal)
 
-  pub step-bad-at : (a b i : ℕ) → checkSteps ls S n a b sheet ≡ yes.Step i → BadAt i
+  step-bad-at : (a b i : ℕ) → checkSteps ls S n a b sheet ≡ yes.Step i → BadAt i
   unfolding checkSteps
   step-bad-at a b i =
       answer (λ r. r ≡ yes.Step i → BadAt i) a b (ltb (lowestBad ls S n sheet) (length sheet / 8)) (known ls n (stepsOf sheet) (In a b)) refl refl
@@ -206,7 +206,7 @@ module _ (ls : List Line) (S : ℕ → Bool) (n : ℕ) (sheet : List ℕ) where
       (earlier f)
       (λ e. by s (step .may) (earlier _ (step .one)) (earlier _ (step .two)) (same-one (conclusionOf ls s) f e))
 
-  pub good-follows : {a b : ℕ} → AllGood a b → Follows ls S a b
+  good-follows : {a b : ℕ} → AllGood a b → Follows ls S a b
   good-follows {a} {b} g =
       let k = length sheet / 8 in
       derived-follows ls S n a b (known-derived k (omega arith) (g .all) (In a b) (known-last ls n sheet k (omega arith) (In a b) ∙ g .goal))

@@ -11,7 +11,7 @@ ghost use Rattle.tables.specs.Tables.{held, addedConcepts, addedLinks};
 ghost use Rattle.yes.specs.YesSheet.{stepIn, zerosIn, numberFits, goodOver, numbersFit, premisesKnown};
 use marks::look::is_marked;
 use pack::bytes::two_bytes;
-use pack::check::line_at;
+use pack::line::line_at;
 use pack::line::Line;
 use pack::line::Step;
 use pack::line::conclude;
