@@ -22,7 +22,7 @@ unfoldable pub caseStep : ℕ → ℕ → ℕ → ℕ → List ℕ
 caseStep place x y z = place ∷ 0 ∷ x ∷ y ∷ z ∷ 0 ∷ 0 ∷ 0 ∷ []
 
 -- all records of the valve pack marked, and C3's sheet from its second step on
-unfoldable allSix : List ℕ
+unfoldable pub allSix : List ℕ
 allSix = 63 ∷ replicate 15 0
 
 unfoldable pub later : List ℕ
