@@ -57,6 +57,11 @@ not-false false h = sym h
 pub never : {C : Type 0} {a : Bool} → a ≡ true → a ≡ false → C
 never {C} {a} h g = absurd (true≢false (rw h at g))
 
+-- what is not follows the other way
+pub turn : (t u : Bool) → (t ≡ true → u ≡ true) → not u ≡ true → not t ≡ true
+turn true u f h = never (f refl) (not-true u h)
+turn false u f h = refl
+
 -- two answers that are yes together are one
 pub alike : (a b : Bool) → (a ≡ true → b ≡ true) → (b ≡ true → a ≡ true) → a ≡ b
 alike true b f g = sym (f refl)

@@ -7,7 +7,7 @@ use native.Mathlib.Omega.{arith}
 use lib.ListN.{length}
 use borrow.Author.Tests.{eqb-true, eq-eqb}
 use Rattle.bits.specs.Sets.{countTo}
-use Rattle.bits.proofs.Truth.{and-true, true-and, not-true, never, alike}
+use Rattle.bits.proofs.Truth.{and-true, true-and, never, alike, turn}
 use Rattle.bits.proofs.SetLaws.{count-le, count-fewer, count-less}
 use Rattle.pack.specs.declared.line.Line.{Line}
 use Rattle.pack.specs.declared.line.Line.the-variants.{Under, BothUnder, UnderSome, SomeUnder, RoleUnder, ChainUnder, NoLine}
@@ -78,10 +78,6 @@ lackNames n m T = countTo (λ x. not (T (concept x))) n + countTo (λ r. not (T 
 abbrev Named : ℕ → ℕ → Name → Type 0
 Named n m (concept x) = x < n
 Named n m (role r) = r < m
-
-turn : (t u : Bool) → (t ≡ true → u ≡ true) → not u ≡ true → not t ≡ true
-turn true u f h = never (f refl) (not-true u h)
-turn false u f h = refl
 
 lack-falls : (n m : ℕ) (T U : Name → Bool) → ((x : Name) → T x ≡ true → U x ≡ true) → (x : Name) → Named n m x → T x ≡ false → U x ≡ true → lackNames n m U < lackNames n m T
 unfolding lackNames
