@@ -27,7 +27,8 @@ use Rattle.pack.specs.Question.{counted, checkQuestion}
 use Rattle.pack.specs.Record.{linesOf}
 use Rattle.pack.specs.Rules.{free}
 use Rattle.pack.proofs.QuestionLaws.{Asked, asked}
-use Rattle.tables.specs.Tables.{held, heldIn, heldLink}
+use Rattle.tables.specs.Tables.{held}
+use Rattle.tables.proofs.TableLaws.{in-bit, link-bit}
 use Rattle.passes.specs.Saturation.{holds}
 use Rattle.passes.specs.Passes.{el, finished, table}
 use Rattle.passes.specs.Ours.{ourSteps, ourRows}
@@ -146,18 +147,10 @@ module _ (n m : ℕ) (ls : List Line) (S : ℕ → Bool) (blank cs lks sheet : L
       high j l (no q) = has-high 64 w j h (omega arith)
 
   concept-row : (x : ℕ) → x < n → getD cs x 0 < 2 ^ 64 → getD cs x 0 ≡ row n (λ b. table ls S n m (In x b))
-  unfolding held heldIn
-  concept-row x l h =
-      row-is (getD cs x 0) (In x) h
-      (λ j q. rw (lt-ltb x 64 (omega arith), lt-ltb j 64 q))
-      (λ j e. agree .sizes (In x j) e .1)
+  concept-row x l h = row-is (getD cs x 0) (In x) h (λ j. in-bit cs lks x j (omega arith)) (λ j e. agree .sizes (In x j) e .1)
 
   link-row : (r x : ℕ) → r < m → m ≤ 8 → x < n → getD lks (r * 64 + x) 0 < 2 ^ 64 → getD lks (r * 64 + x) 0 ≡ row n (λ y. table ls S n m (Link x r y))
-  unfolding held heldLink
-  link-row r x lr lm lx h =
-      row-is (getD lks (r * 64 + x) 0) (Link x r) h
-      (λ j q. rw (lt-ltb x 64 (omega arith), lt-ltb r 8 (omega arith), lt-ltb j 64 q))
-      (λ j e. agree .sizes (Link x r j) e .2)
+  link-row r x lr lm lx h = row-is (getD lks (r * 64 + x) 0) (Link x r) h (λ j. link-bit cs lks x r j (omega arith) (omega arith)) (λ j e. agree .sizes (Link x r j) e .2)
 
   row-at : m ≤ 8 → (i : ℕ) → i < n * (1 + m) → rowIn n cs lks i ≡ getD (ourRows ls S n m) i 0
   row-at lm i h = go (decLt i n)
