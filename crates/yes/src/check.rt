@@ -3,7 +3,7 @@ ghost use mathlib.Core.Path.{_≡_};
 ghost use Prim.Native.Nat.{_≤_};
 ghost use lib.ListN.{length};
 ghost use Rattle.pack.specs.Record.{linesOf};
-ghost use Rattle.pack.specs.Question.{counted, checkQuestion};
+ghost use Rattle.pack.specs.Question.{counted, Taken};
 ghost use Rattle.yes.specs.YesSheet.{checkSteps, checkYes};
 use crate::step::check_step;
 use pack::check::Checked;
@@ -21,7 +21,7 @@ pub enum YesAnswer {
     Accepted,
 }
 
-// The steps of a sheet of right length, for a question of `count` records that is taken.
+// The steps of a sheet of right length, for a question that is taken.
 fn check_steps<'a>(
     n: usize,
     m: usize,
@@ -30,9 +30,8 @@ fn check_steps<'a>(
     a: usize,
     b: usize,
     sheet: &'a [u8],
-    count: u32,
 ) -> YesAnswer
-    requires { ⌜ (checkQuestion n m (now pack) (now marks) a b ≡ Checked.Count count) × (length (now sheet) ≤ 524288) ⌝ }
+    requires { ⌜ Taken n m (now pack) (now marks) a b × (length (now sheet) ≤ 524288) ⌝ }
     ensures { λ r. ⌜ r ≡ checkSteps (linesOf (now (pack .entry))) (counted (now (pack .entry)) (now (marks .entry))) n a b (now (sheet .entry)) ⌝ }
 {
     let start = start_tables(n);
@@ -65,9 +64,8 @@ fn check_yes_counted<'a>(
     a: usize,
     b: usize,
     sheet: &'a [u8],
-    count: u32,
 ) -> YesAnswer
-    requires { ⌜ checkQuestion n m (now pack) (now marks) a b ≡ Checked.Count count ⌝ }
+    requires { ⌜ Taken n m (now pack) (now marks) a b ⌝ }
     ensures { λ r. ⌜ r ≡ checkYes n m (now (pack .entry)) (now (marks .entry)) a b (now (sheet .entry)) ⌝ }
 {
     if sheet.len() % 8 != 0 {
@@ -76,7 +74,7 @@ fn check_yes_counted<'a>(
     if 524288 < sheet.len() {
         return YesAnswer::Length;
     }
-    check_steps(n, m, pack, marks, a, b, sheet, count)
+    check_steps(n, m, pack, marks, a, b, sheet)
 }
 
 // The yes check, for any input.
@@ -94,6 +92,6 @@ pub fn check_yes<'a>(
     let checked = check_question(n, m, pack, marks, a, b);
     match checked {
         Checked::Refused(why) => YesAnswer::Refused(why),
-        Checked::Count(count) => check_yes_counted(n, m, pack, marks, a, b, sheet, count),
+        Checked::Count(_) => check_yes_counted(n, m, pack, marks, a, b, sheet),
     }
 }

@@ -15,15 +15,15 @@ use Rattle.yes.proofs.check.check_steps.Statement.{statement}
 use Rattle.yes.proofs.check.check_steps.Tie as tie
 
 abbrev Inv-loop : tie.InvT-loop
-Inv-loop n m pack marks a b sheet count concepts₀ links₀ steps i₀ concepts links i =
+Inv-loop n m pack marks a b sheet concepts₀ links₀ steps i₀ concepts links i =
     (steps ≡ length sheet / 8) × (i ≤ steps) × Passed (linesOf pack) (counted pack marks) n sheet concepts links i
 
 abbrev μ-loop : tie.MeasureT-loop
-μ-loop n m pack marks a b sheet count concepts₀ links₀ steps i₀ concepts links i = steps - i
+μ-loop n m pack marks a b sheet concepts₀ links₀ steps i₀ concepts links i = steps - i
 
 -- the question is taken, so that its sizes, its lines and its goal are right
-question : (c : tie.Start Inv-loop μ-loop) → let a = c .args in Asked (a .n) (a .m) (a .pack .now) (a .marks .now) (a .a) (a .b) (a .count)
-question c = asked _ _ _ _ _ _ (c .pre .0)
+question : (c : tie.Start Inv-loop μ-loop) → let a = c .args in Asked (a .n) (a .m) (a .pack .now) (a .marks .now) (a .a) (a .b) (c .pre .0 .0)
+question c = asked _ _ _ _ _ _ (c .pre .0 .1)
 
 start-tables-requires : tie.Need-start-tables-requires Inv-loop μ-loop
 start-tables-requires c κs = search needs
@@ -69,8 +69,8 @@ loop-again c =
       passed-more _ _ _ _ (loop .inv .2) (omega arith) (step .0) (q .n-most) (q .m-most) (lines-valid _ _ _ (q .all)) (c .if1 .taken) (step .1 .0) (step .1 .1),
     )
 
-cast-t25 : tie.Need-cast-t25 Inv-loop μ-loop
-cast-t25 c = omega arith
+cast-t24 : tie.Need-cast-t24 Inv-loop μ-loop
+cast-t24 c = omega arith
 
 returns : tie.Need-returns Inv-loop μ-loop
 returns c =
@@ -110,7 +110,7 @@ check-steps-spec =
     add-i
     loop-less
     loop-again
-    cast-t25
+    cast-t24
     returns
     cast-in-held
     cast-in-held-2
