@@ -5,7 +5,7 @@ ghost use Prim.Native.Nat.{_*_, _≤_, _<_, _/_};
 ghost use lib.ListN.{length};
 ghost use Rattle.pack.specs.World.{lineAt, obeys};
 ghost use Rattle.pack.specs.Record.{linesOf, recordCount};
-ghost use Rattle.pack.specs.Question.{counted, checkQuestion};
+ghost use Rattle.pack.specs.Question.{counted, Taken};
 ghost use Rattle.no.specs.NoSheet.{worldOf, rowsOf, lowestBroken, checkWorld, checkRows, checkNo};
 ghost use Rattle.no.specs.Inner.{ThingsFit, LinesFit};
 use crate::row::lowest_forbidden;
@@ -91,10 +91,9 @@ fn check_rows<'a>(
     a: usize,
     b: usize,
     sheet: &'a [u8],
-    count: u32,
     k: usize,
 ) -> NoAnswer
-    requires { ⌜ (checkQuestion n m (now pack) (now marks) a b ≡ Checked.Count count) × (length (now sheet) ≡ rowsOf m k * 8) × (k ≤ 64) ⌝ }
+    requires { ⌜ Taken n m (now pack) (now marks) a b × (length (now sheet) ≡ rowsOf m k * 8) × (k ≤ 64) ⌝ }
     ensures { λ r. ⌜ r ≡ checkRows n m k (linesOf (now (pack .entry))) (counted (now (pack .entry)) (now (marks .entry))) a b (now (sheet .entry)) ⌝ }
 {
     let rows = k * (1 + m);
@@ -114,9 +113,8 @@ fn check_no_counted<'a>(
     a: usize,
     b: usize,
     sheet: &'a [u8],
-    count: u32,
 ) -> NoAnswer
-    requires { ⌜ checkQuestion n m (now pack) (now marks) a b ≡ Checked.Count count ⌝ }
+    requires { ⌜ Taken n m (now pack) (now marks) a b ⌝ }
     ensures { λ r. ⌜ r ≡ checkNo n m (now (pack .entry)) (now (marks .entry)) a b (now (sheet .entry)) ⌝ }
 {
     let thing = 8 * (1 + m);
@@ -130,7 +128,7 @@ fn check_no_counted<'a>(
     if 64 < k {
         return NoAnswer::Length;
     }
-    check_rows(n, m, pack, marks, a, b, sheet, count, k)
+    check_rows(n, m, pack, marks, a, b, sheet, k)
 }
 
 // The no check, for any input.
@@ -148,6 +146,6 @@ pub fn check_no<'a>(
     let checked = check_question(n, m, pack, marks, a, b);
     match checked {
         Checked::Refused(why) => NoAnswer::Refused(why),
-        Checked::Count(count) => check_no_counted(n, m, pack, marks, a, b, sheet, count),
+        Checked::Count(_) => check_no_counted(n, m, pack, marks, a, b, sheet),
     }
 }

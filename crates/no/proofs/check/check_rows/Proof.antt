@@ -11,7 +11,7 @@ use Rattle.no.proofs.check.check_rows.Statement.{statement}
 use Rattle.no.proofs.check.check_rows.Tie as tie
 
 add-rows : tie.Need-add-rows
-add-rows c = omega (arith, asked _ _ _ _ _ _ (c .before .before .before .pre .0) .pack .m-most)
+add-rows c = omega (arith, asked _ _ _ _ _ _ (c .before .before .before .pre .0 .1) .pack .m-most)
 
 mul-rows : tie.Need-mul-rows
 mul-rows c = search needs
@@ -19,24 +19,24 @@ mul-rows c = search needs
 lowest-forbidden-requires : tie.Need-lowest-forbidden-requires
 lowest-forbidden-requires c κs = search needs
 
-cast-t14 : tie.Need-cast-t14
-cast-t14 c = omega (arith, rows-few (c .before .before .before .before .before .args .m) (c .before .before .before .before .before .args .k) (asked _ _ _ _ _ _ (c .before .before .before .before .before .pre .0) .pack .m-most) (c .before .before .before .before .before .pre .2))
+cast-t13 : tie.Need-cast-t13
+cast-t13 c = omega (arith, rows-few (c .before .before .before .before .before .args .m) (c .before .before .before .before .before .args .k) (asked _ _ _ _ _ _ (c .before .before .before .before .before .pre .0 .1) .pack .m-most) (c .before .before .before .before .before .pre .2))
 
 returns : tie.Need-returns
 unfolding checkRows
 returns c = rw (← c .before .lowest-forbidden .ensures, lt-ltb _ _ (c .if1 .taken))
 
 cast-check-world : tie.Need-cast-check-world
-cast-check-world c = omega (arith, asked _ _ _ _ _ _ (c .before .before .before .before .before .pre .0) .pack .n-most, asked _ _ _ _ _ _ (c .before .before .before .before .before .pre .0) .goalA)
+cast-check-world c = omega (arith, asked _ _ _ _ _ _ (c .before .before .before .before .before .pre .0 .1) .pack .n-most, asked _ _ _ _ _ _ (c .before .before .before .before .before .pre .0 .1) .goalA)
 
 cast-check-world-2 : tie.Need-cast-check-world-2
-cast-check-world-2 c = omega (arith, asked _ _ _ _ _ _ (c .before .before .before .before .before .pre .0) .pack .n-most, asked _ _ _ _ _ _ (c .before .before .before .before .before .pre .0) .goalB)
+cast-check-world-2 c = omega (arith, asked _ _ _ _ _ _ (c .before .before .before .before .before .pre .0 .1) .pack .n-most, asked _ _ _ _ _ _ (c .before .before .before .before .before .pre .0 .1) .goalB)
 
 check-world-requires : tie.Need-check-world-requires
 check-world-requires c κs =
     let a = c .before .before .before .before .before .args in
     let pre = c .before .before .before .before .before .pre in
-    let q = asked (a .n) (a .m) (a .pack .now) (a .marks .now) (a .a) (a .b) (pre .0) in
+    let q = asked (a .n) (a .m) (a .pack .now) (a .marks .now) (a .a) (a .b) (pre .0 .1) in
     let none = all-rows (a .n) (a .m) (a .k) (a .sheet .now) (c .before .lowest-forbidden .ensures) (c .if1 .left) in (
       things-fit (a .n) (a .m) (a .k) (a .sheet .now) (pre .2) (pre .1),
       lines-fit (a .n) (a .m) (a .k) (a .sheet .now) (pre .2) (pre .1) (q .pack .n-most) none (linesOf (a .pack .now)) (lines-valid (a .n) (a .m) (a .pack .now) (q .pack .all)),
@@ -56,7 +56,7 @@ check-rows-spec =
     add-rows
     mul-rows
     lowest-forbidden-requires
-    cast-t14
+    cast-t13
     returns
     cast-check-world
     cast-check-world-2
