@@ -5,7 +5,7 @@ ghost use mathlib.Core.List.{_++_};
 ghost use Prim.Native.Nat.{ℕ, _+_, _*_, _/_, _^_, _≤_, _<_};
 ghost use lib.Dec.{leb};
 ghost use lib.ListN.{length, drop};
-ghost use Rattle.pack.specs.Question.{counted, checkQuestion};
+ghost use Rattle.pack.specs.Question.{counted, Taken};
 ghost use Rattle.pack.specs.Record.{linesOf};
 ghost use Rattle.passes.specs.Ours.{ourSteps};
 ghost use Rattle.engine.specs.Verdict.{follows};
@@ -112,18 +112,17 @@ fn write_yes<'a>(
     marks: &'a [u64],
     a: usize,
     b: usize,
-    count: u32,
     steps: usize,
     sheet: &mut [u8],
 ) -> SheetAnswer
-    requires { ⌜ (checkQuestion n m (now pack) (now marks) a b ≡ Checked.Count count) × (a ≡ b → ⊥) × (follows n m (now pack) (now marks) a b ≡ true) × (steps ≡ length (ourSteps (linesOf (now pack)) (counted (now pack) (now marks)) n m a b)) × (steps ≤ 36800) ⌝ }
+    requires { ⌜ Taken n m (now pack) (now marks) a b × (a ≡ b → ⊥) × (follows n m (now pack) (now marks) a b ≡ true) × (steps ≡ length (ourSteps (linesOf (now pack)) (counted (now pack) (now marks)) n m a b)) × (steps ≤ 36800) ⌝ }
     ensures { λ r. ⌜ (r ≡ askSheet n m (now (pack .entry)) (now (marks .entry)) a b (now (sheet .entry))) × (now (sheet .exit) ≡ writtenSheet n m (now (pack .entry)) (now (marks .entry)) a b (now (sheet .entry))) ⌝ }
 {
     let need = steps * 8;
     if sheet.len() < need {
         return SheetAnswer::NoRoom(need as u32);
     }
-    let again = settle(n, m, pack, marks, a, b, count, &mut sheet[0..need]);
+    let again = settle(n, m, pack, marks, a, b, &mut sheet[0..need]);
     let written = again.count;
     SheetAnswer::Follows(written as u32)
 }
@@ -136,14 +135,13 @@ fn write_settled<'a>(
     marks: &'a [u64],
     a: usize,
     b: usize,
-    count: u32,
     sheet: &mut [u8],
 ) -> SheetAnswer
-    requires { ⌜ (checkQuestion n m (now pack) (now marks) a b ≡ Checked.Count count) × (a ≡ b → ⊥) ⌝ }
+    requires { ⌜ Taken n m (now pack) (now marks) a b × (a ≡ b → ⊥) ⌝ }
     ensures { λ r. ⌜ (r ≡ askSheet n m (now (pack .entry)) (now (marks .entry)) a b (now (sheet .entry))) × (now (sheet .exit) ≡ writtenSheet n m (now (pack .entry)) (now (marks .entry)) a b (now (sheet .entry))) ⌝ }
 {
     let mut none = [0u8; 0];
-    let end = settle(n, m, pack, marks, a, b, count, &mut none);
+    let end = settle(n, m, pack, marks, a, b, &mut none);
     let steps = end.count;
     if 36800 < steps {
         return SheetAnswer::TooLong;
@@ -152,7 +150,7 @@ fn write_settled<'a>(
     let concepts = tables.concepts;
     let links = tables.links;
     if in_held(&concepts, a as u8, b as u8) {
-        return write_yes(n, m, pack, marks, a, b, count, steps, sheet);
+        return write_yes(n, m, pack, marks, a, b, steps, sheet);
     }
     write_no(n, m, &concepts, &links, sheet)
 }
@@ -165,16 +163,15 @@ fn write_taken<'a>(
     marks: &'a [u64],
     a: usize,
     b: usize,
-    count: u32,
     sheet: &mut [u8],
 ) -> SheetAnswer
-    requires { ⌜ checkQuestion n m (now pack) (now marks) a b ≡ Checked.Count count ⌝ }
+    requires { ⌜ Taken n m (now pack) (now marks) a b ⌝ }
     ensures { λ r. ⌜ (r ≡ askSheet n m (now (pack .entry)) (now (marks .entry)) a b (now (sheet .entry))) × (now (sheet .exit) ≡ writtenSheet n m (now (pack .entry)) (now (marks .entry)) a b (now (sheet .entry))) ⌝ }
 {
     if a == b {
         return SheetAnswer::Follows(0);
     }
-    write_settled(n, m, pack, marks, a, b, count, sheet)
+    write_settled(n, m, pack, marks, a, b, sheet)
 }
 
 // The sheet writer, for any input and any lent sheet.
@@ -192,6 +189,6 @@ pub fn write_sheet<'a>(
     let checked = check_question(n, m, pack, marks, a, b);
     match checked {
         Checked::Refused(why) => SheetAnswer::Refused(why),
-        Checked::Count(count) => write_taken(n, m, pack, marks, a, b, count, sheet),
+        Checked::Count(_) => write_taken(n, m, pack, marks, a, b, sheet),
     }
 }

@@ -18,13 +18,13 @@ settle-requires : tie.Need-settle-requires
 settle-requires c κs = (c .before .before .before .before .pre .0, c .before .before .before .before .pre .1)
 
 returns : tie.Need-returns
-returns c = absurd (end-few _ _ _ _ _ _ (c .before .before .before .before .before .before .before .pre .0) (c .before .before .before .before .before .before .before .pre .1) _ _ _ _ _ (c .before .before .settle .ensures) (c .if1 .taken))
+returns c = absurd (end-few _ _ _ _ _ _ (c .before .before .before .before .before .before .before .pre .0 .1) (c .before .before .before .before .before .before .before .pre .1) _ _ _ _ _ (c .before .before .settle .ensures) (c .if1 .taken))
 
 cast-in-held : tie.Need-cast-in-held
-cast-in-held c = omega (arith, asked _ _ _ _ _ _ (c .before .before .before .before .before .before .before .before .before .before .before .pre .0) .goalA, asked _ _ _ _ _ _ (c .before .before .before .before .before .before .before .before .before .before .before .pre .0) .pack .n-most)
+cast-in-held c = omega (arith, asked _ _ _ _ _ _ (c .before .before .before .before .before .before .before .before .before .before .before .pre .0 .1) .goalA, asked _ _ _ _ _ _ (c .before .before .before .before .before .before .before .before .before .before .before .pre .0 .1) .pack .n-most)
 
 cast-in-held-2 : tie.Need-cast-in-held-2
-cast-in-held-2 c = omega (arith, asked _ _ _ _ _ _ (c .before .before .before .before .before .before .before .before .before .before .before .pre .0) .goalB, asked _ _ _ _ _ _ (c .before .before .before .before .before .before .before .before .before .before .before .pre .0) .pack .n-most)
+cast-in-held-2 c = omega (arith, asked _ _ _ _ _ _ (c .before .before .before .before .before .before .before .before .before .before .before .pre .0 .1) .goalB, asked _ _ _ _ _ _ (c .before .before .before .before .before .before .before .before .before .before .before .pre .0 .1) .pack .n-most)
 
 in-held-requires : tie.Need-in-held-requires
 in-held-requires c κs = search needs
@@ -33,7 +33,7 @@ write-yes-requires : tie.Need-write-yes-requires
 unfolding held
 write-yes-requires c κs =
     let pre = c .before .before .before .before .before .before .before .before .before .before .before .before .before .before .pre in
-    let e = end-held _ _ _ _ _ _ (pre .0) (pre .1) _ _ _ _ _ (c .before .before .before .before .before .before .before .before .before .settle .ensures) (sym (c .before .before .in-held .ensures) ∙ c .before .if2 .taken) in (
+    let e = end-held _ _ _ _ _ _ (pre .0 .1) (pre .1) _ _ _ _ _ (c .before .before .before .before .before .before .before .before .before .settle .ensures) (sym (c .before .before .in-held .ensures) ∙ c .before .if2 .taken) in (
       pre .0,
       pre .1,
       e .0,
@@ -42,14 +42,14 @@ write-yes-requires c κs =
     )
 
 same-length : tie.Need-same-length
-same-length c = c .before .before .write-yes .kept .1 .1 .1 .1 .1 .1 .1 .1 .0
+same-length c = c .before .before .write-yes .kept .1 .1 .1 .1 .1 .1 .1 .0
 
 returns-2 : tie.Need-returns-2
 returns-2 c = c .before .before .write-yes .ensures
 
 write-no-requires : tie.Need-write-no-requires
 write-no-requires c κs =
-    let q = asked _ _ _ _ _ _ (c .before .before .before .before .before .before .before .before .before .before .before .before .before .before .before .before .pre .0) in
+    let q = asked _ _ _ _ _ _ (c .before .before .before .before .before .before .before .before .before .before .before .before .before .before .before .before .pre .0 .1) in
     (q .pack .n-some, q .pack .n-most, q .pack .m-most)
 
 same-length-2 : tie.Need-same-length-2
@@ -60,7 +60,7 @@ unfolding held
 returns-3 c =
     let pre = c .before .before .before .before .before .before .before .before .before .before .before .before .before .before .before .before .before .before .before .pre in
     let w = c .before .before .write-no .ensures in
-    no-sheet _ _ _ _ _ _ (pre .0) _ (pre .1) _ _ _ _ _ (c .before .before .before .before .before .before .before .before .before .before .before .before .before .before .settle .ensures) (sym (c .before .before .before .before .before .before .before .in-held .ensures) ∙ c .before .before .before .before .before .before .if2 .left) (w .0) (w .1 .0) (w .1 .1)
+    no-sheet _ _ _ _ _ _ (pre .0 .1) _ (pre .1) _ _ _ _ _ (c .before .before .before .before .before .before .before .before .before .before .before .before .before .before .settle .ensures) (sym (c .before .before .before .before .before .before .before .in-held .ensures) ∙ c .before .before .before .before .before .before .if2 .left) (w .0) (w .1 .0) (w .1 .1)
 
 pub write-settled-spec : {M : Type 1} → statement M
 write-settled-spec =

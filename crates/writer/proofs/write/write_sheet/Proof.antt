@@ -11,11 +11,11 @@ check-question-requires c κs = search needs
 enum-known-checked : tie.Need-enum-known-checked
 enum-known-checked c = search needs
 
-enum-known-checked-2 : tie.Need-enum-known-checked-2
-enum-known-checked-2 c = search needs
+enum-told : tie.Need-enum-told
+enum-told c = search needs
 
 write-taken-requires : tie.Need-write-taken-requires
-write-taken-requires c κs = sym (c .before .before .before .before .check-question .ensures) ∙ c .before .before .checked2 .given .1
+write-taken-requires c κs = (_, sym (c .before .before .before .check-question .ensures) ∙ c .before .enum-told .given .1)
 
 returns : tie.Need-returns
 unfolding askSheet writtenSheet
@@ -24,7 +24,7 @@ returns c =
     (rw e, rw e)
 
 same-length : tie.Need-same-length
-same-length c = c .before .before .write-taken .kept .1 .1 .1 .1 .1 .1 .1 .0
+same-length c = c .before .before .write-taken .kept .1 .1 .1 .1 .1 .1 .0
 
 returns-2 : tie.Need-returns-2
 returns-2 c = c .before .before .write-taken .ensures
@@ -35,7 +35,7 @@ write-sheet-spec =
     (tie.spec
     check-question-requires
     enum-known-checked
-    enum-known-checked-2
+    enum-told
     write-taken-requires
     returns
     same-length

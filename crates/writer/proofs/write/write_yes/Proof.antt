@@ -12,11 +12,11 @@ use Rattle.writer.proofs.write.write_yes.Tie as tie
 mul-need : tie.Need-mul-need
 mul-need c = omega (arith, c .before .before .before .pre .4)
 
-cast-t15 : tie.Need-cast-t15
-cast-t15 c = omega (arith, c .before .before .before .before .pre .4)
+cast-t14 : tie.Need-cast-t14
+cast-t14 c = omega (arith, c .before .before .before .before .pre .4)
 
 returns : tie.Need-returns
-returns c = yes-short _ _ _ _ _ _ (c .before .before .before .before .pre .0) _ (c .before .before .before .before .pre .2) _ (c .before .before .before .before .pre .3) (c .if1 .taken)
+returns c = yes-short _ _ _ _ _ _ (c .before .before .before .before .pre .0 .1) _ (c .before .before .before .before .pre .2) _ (c .before .before .before .before .pre .3) (c .if1 .taken)
 
 sub-settle : tie.Need-sub-settle
 sub-settle c = omega arith
@@ -30,8 +30,8 @@ part-settle-end c = omega arith
 settle-requires : tie.Need-settle-requires
 settle-requires c κs = (c .before .before .before .before .before .pre .0, c .before .before .before .before .before .pre .1)
 
-cast-t19 : tie.Need-cast-t19
-cast-t19 c = omega (arith, by-contra (c .before .before .settle .result .count) 36800 (λ l. end-few _ _ _ _ _ _ (c .before .before .before .before .before .before .before .before .pre .0) (c .before .before .before .before .before .before .before .before .pre .1) _ _ _ _ _ (c .before .before .settle .ensures) l))
+cast-t18 : tie.Need-cast-t18
+cast-t18 c = omega (arith, by-contra (c .before .before .settle .result .count) 36800 (λ l. end-few _ _ _ _ _ _ (c .before .before .before .before .before .before .before .before .pre .0 .1) (c .before .before .before .before .before .before .before .before .pre .1) _ _ _ _ _ (c .before .before .settle .ensures) l))
 
 same-length : tie.Need-same-length
 same-length c = search needs
@@ -42,19 +42,19 @@ returns-2 c =
     let pre = c .before .before .before .before .before .before .before .before .pre in
     let room = c .before .before .before .before .if1 .left in
     rw (post-is 0 (a .steps * 8) (a .sheet .now) (omega arith))
-    (yes-full (a .n) (a .m) (a .pack .now) (a .marks .now) (a .a) (a .b) (pre .0) (a .sheet .now) (pre .2) (a .steps) (pre .3) (pre .1) _ _ _ _ _ room (simp (length-take, length-drop) (omega arith)) (c .before .before .settle .ensures))
+    (yes-full (a .n) (a .m) (a .pack .now) (a .marks .now) (a .a) (a .b) (pre .0 .1) (a .sheet .now) (pre .2) (a .steps) (pre .3) (pre .1) _ _ _ _ _ room (simp (length-take, length-drop) (omega arith)) (c .before .before .settle .ensures))
 
 pub write-yes-spec : {M : Type 1} → statement M
 write-yes-spec =
     tie.close
     (tie.spec
     mul-need
-    cast-t15
+    cast-t14
     returns
     sub-settle
     part-settle-start
     part-settle-end
     settle-requires
-    cast-t19
+    cast-t18
     same-length
     returns-2)
