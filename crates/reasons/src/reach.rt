@@ -13,8 +13,8 @@ ghost use Rattle.reasons.specs.Names.{nameIn, withName, withNames, withL
 use marks::change::cut_marks;
 use marks::change::unmark;
 use marks::look::next_marked;
-use pack::line::line_at;
 use pack::line::Line;
+use pack::line::line_at;
 
 // Names of a question: a bit for each concept, and a bit for each role.
 pub struct Names {
