@@ -5,6 +5,7 @@ pub mod PackLaws
 pub mod QuestionLaws
 pub mod WorldLaws
 pub mod RuleLaws
+pub mod Ranges
 pub mod Soundness
 pub mod Promises
 pub mod Examples

@@ -17,9 +17,9 @@ use Rattle.pack.specs.declared.line.Fact.{Fact}
 use Rattle.pack.specs.declared.line.Fact.the-variants.{In, Link}
 use Rattle.pack.specs.World.{World, Is, Obeys}
 use Rattle.pack.specs.Record.{Valid}
-use Rattle.pack.specs.Rules.{free}
+use Rattle.pack.specs.Rules.{free, InRange}
 use Rattle.pack.proofs.Soundness.{free-self}
-use Rattle.passes.specs.Passes.{InRange, table, verdict}
+use Rattle.passes.specs.Passes.{table, verdict}
 use Rattle.passes.specs.Ours.{ourRows}
 use Rattle.passes.proofs.Exact.{ClosedTable, closed-agrees, table-obeys}
 use Rattle.passes.proofs.PassLaws.{table-exact}

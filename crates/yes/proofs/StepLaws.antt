@@ -4,23 +4,22 @@ use mathlib.Core.Path.{_≡_, refl, sym, ap, ap₂, _∙_}
 use mathlib.Core.Bool.{Bool, true, false, cond, _&&_}
 use mathlib.Core.List.{List}
 use Prim.Native.Nat.{ℕ, _/_, _≤_, _<_}
-use native.Mathlib.Omega.{arith}
 use lib.Dec.{ltb}
 use lib.ListN.{length}
-use borrow.Author.Tests.{ltb-true, eqb-true, lt-ltb}
-use Rattle.bits.proofs.Truth.{and-true, true-and}
+use borrow.Author.Tests.{ltb-true, eqb-true}
+use Rattle.bits.proofs.Truth.{and-true}
 use Rattle.bits.proofs.Promises.{no-second}
 use Rattle.pack.specs.declared.line.Line.{Line}
-use Rattle.pack.specs.declared.line.Line.the-variants.{Under, BothUnder, UnderSome, SomeUnder, RoleUnder, ChainUnder, NoLine}
 use Rattle.pack.specs.declared.line.Fact.{Fact}
-use Rattle.pack.specs.declared.line.Fact.the-variants.{In, Link}
 use Rattle.pack.specs.declared.line.Step.{Step}
 use Rattle.pack.specs.World.{lineAt}
-use Rattle.pack.specs.Record.{linesOf, lineAtPlace, ValidLine, Valid}
+use Rattle.pack.specs.Record.{linesOf, lineAtPlace, Valid}
 use Rattle.pack.specs.Question.{counted}
 use Rattle.pack.specs.Rules.{premiseOneOf, premiseTwoOf, conclusion, conclusionOf, usesY, usesZ, Fits, Usable}
 use Rattle.pack.proofs.RecordLaws.{lines-length, lines-at}
 use Rattle.tables.specs.Tables.{inTable, addedConcepts, addedLinks}
+use Rattle.tables.proofs.TableLaws.{in-table}
+use Rattle.pack.proofs.Ranges.{conclusion-range}
 use Rattle.yes.specs.YesSheet.{stepIn, numberFits, usable, goodOver, numbersFit, premisesKnown}
 
 -- THE TESTS OF THE CODE: the place counts, and the numbers and the premises are right for the line l there
@@ -81,28 +80,11 @@ module _ (ls : List Line) (S : ℕ → Bool) (n : ℕ) where
         two = k .1;
       }
 
--- THE CONCLUSION OF A LINE whose numbers fit has a place in the tables
-module _ (n m : ℕ) (few : n ≤ 64) (roles : m ≤ 8) where
-  concept : {x b : ℕ} → x < n → b < n → inTable (In x b) ≡ true
-  concept {x} {b} h g = true-and (ltb x 64) (ltb b 64) (lt-ltb x 64 (omega arith)) (lt-ltb b 64 (omega arith))
-
-  link : {x r y : ℕ} → x < n → r < m → y < n → inTable (Link x r y) ≡ true
-  link {x} {r} {y} h k g =
-      true-and (ltb x 64 && ltb r 8) (ltb y 64)
-      (true-and (ltb x 64) (ltb r 8) (lt-ltb x 64 (omega arith)) (lt-ltb r 8 (omega arith)))
-      (lt-ltb y 64 (omega arith))
-
-  in-table : (l : Line) (x y z : ℕ) → ValidLine n m l → x < n → Fits (usesY l) n y → Fits (usesZ l) n z → inTable (conclusion l x y z) ≡ true
-  in-table (Under a b) x y z v h f g = concept h (v .1)
-  in-table (BothUnder a₁ a₂ b) x y z v h f g = concept h (v .2)
-  in-table (UnderSome a r b) x y z v h f g = link h (v .1) (v .2)
-  in-table (SomeUnder r a b) x y z v h f g = concept h (v .2)
-  in-table (RoleUnder r s) x y z v h f g = link h (v .1) f
-  in-table (ChainUnder r s t) x y z v h f g = link h (v .2) g
-  in-table NoLine x y z v h f g = absurd v
-
-  pub conclusion-in-table : (ls : List Line) (S : ℕ → Bool) (s : Step) → Valid n m ls → Usable ls S n s → inTable (conclusionOf ls s) ≡ true
-  conclusion-in-table ls S s v u = in-table (lineAt ls (s .place)) (s .x) (s .y) (s .z) (v (s .place) (u .there)) (u .fitsX) (u .fitsY) (u .fitsZ)
+-- THE CONCLUSION OF A USABLE STEP has a place in the tables
+pub conclusion-in-table : (n m : ℕ) → n ≤ 64 → m ≤ 8 → (ls : List Line) (S : ℕ → Bool) (s : Step) → Valid n m ls → Usable ls S n s → inTable (conclusionOf ls s) ≡ true
+conclusion-in-table n m few roles ls S s v u =
+    in-table n m few roles (conclusionOf ls s)
+    (conclusion-range n m (lineAt ls (s .place)) (v (s .place) (u .there)) (s .x) (s .y) (s .z) (u .fitsX) (u .fitsY) (u .fitsZ))
 
 -- NO SECOND RESULT, and no second later content of the rows, satisfies the promise of the check of a step; right and f are what
 -- the definitions give for the step and its conclusion
