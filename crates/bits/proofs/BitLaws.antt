@@ -3,22 +3,19 @@ use mathlib.Core.Path.{_≡_, refl, sym, ap, _∙_}
 use mathlib.Core.Bool.{Bool, true, false, cond, not, _&&_, _||_}
 use Prim.Native.Nat.{ℕ, zero, suc, _+_, _-_, _*_, _/_, _%_, _^_, _≤_, _<_, min, max}
 use native.Mathlib.Decide.{ℕ-discrete, decLt}
-use native.Mathlib.Nat.{mod-lt, mod-eq-of-lt, zero-lt-suc, pow-suc, not-suc-le-zero, div-one, one-mul, zero-add}
+use native.Mathlib.Nat.{mod-lt, mod-eq-of-lt, zero-lt-suc, pow-suc, not-suc-le-zero, div-one, one-mul}
 use native.Mathlib.Numerals.{one-add}
-use native.Mathlib.Omega.{arith, by-contra}
+use native.Mathlib.Omega.{arith}
 use lib.Arith.{lt-one}
 use lib.Bits.{bitAnd, bitOr, and-shr, or-shr, and-step, or-step, and-le-l}
-use lib.Count.{ones, ones-step, trailingZeros, under}
 use lib.Dec.{lit<, eqb}
-use lib.Pow.{shr-shr, pow-pos, shl-exact, shr-le}
+use lib.Pow.{shr-shr, pow-pos, shl-exact}
 use borrow.Author.Tests.{eqb-true, eq-eqb, ne-eqb}
 use Rattle.bits.specs.Bit.{has, withBit}
-use Rattle.bits.specs.Sets.{lowest, countTo}
 use Rattle.bits.proofs.Truth.{true-and, or-false, not-false, never}
-use Rattle.bits.proofs.SetLaws.{Lowest, lowest-is, count-add, count-same}
 
 -- bit j of w, as a number
-unfoldable bit : ℕ → ℕ → ℕ
+unfoldable pub bit : ℕ → ℕ → ℕ
 bit w j = w / 2 ^ j % 2
 
 -- a bit as a number and as yes or no
@@ -26,19 +23,19 @@ bit-lt : (w j : ℕ) → bit w j < 2
 unfolding bit
 bit-lt w j = mod-lt (w / 2 ^ j) (zero-lt-suc 1)
 
-has-one : (w j : ℕ) → has w j ≡ true → bit w j ≡ 1
+pub has-one : (w j : ℕ) → has w j ≡ true → bit w j ≡ 1
 unfolding bit has
 has-one w j h = eqb-true (w / 2 ^ j % 2) 1 h
 
-one-has : (w j : ℕ) → bit w j ≡ 1 → has w j ≡ true
+pub one-has : (w j : ℕ) → bit w j ≡ 1 → has w j ≡ true
 unfolding bit has
 one-has w j h = eq-eqb (w / 2 ^ j % 2) 1 h
 
-not-has : (w j : ℕ) → bit w j ≡ 0 → has w j ≡ false
+pub not-has : (w j : ℕ) → bit w j ≡ 0 → has w j ≡ false
 unfolding bit has
 not-has w j h = ne-eqb (w / 2 ^ j % 2) 1 (λ e. omega arith)
 
-has-not : (w j : ℕ) → has w j ≡ false → bit w j ≡ 0
+pub has-not : (w j : ℕ) → has w j ≡ false → bit w j ≡ 0
 has-not w j h = by-lt (bit w j) refl (bit-lt w j)
   where
     by-lt : (b : ℕ) → bit w j ≡ b → b < 2 → b ≡ 0
@@ -47,26 +44,26 @@ has-not w j h = by-lt (bit w j) refl (bit-lt w j)
     by-lt (suc (suc b)) e l = absurd (omega arith)
 
 -- the lowest bit, and the bits above it
-bit-zero : (w : ℕ) → bit w 0 ≡ w % 2
+pub bit-zero : (w : ℕ) → bit w 0 ≡ w % 2
 unfolding bit
 bit-zero w = ap (λ (x : ℕ). x % 2) (div-one w)
 
-bit-suc : (w j : ℕ) → bit w (suc j) ≡ bit (w / 2) j
+pub bit-suc : (w j : ℕ) → bit w (suc j) ≡ bit (w / 2) j
 unfolding bit
 bit-suc w j = ap (λ (x : ℕ). x % 2) (ap (λ (k : ℕ). w / 2 ^ k) (sym (one-add j)) ∙ sym (shr-shr w 1 j))
 
-bit-shr : (w i j : ℕ) → bit (w / 2 ^ i) j ≡ bit w (i + j)
+pub bit-shr : (w i j : ℕ) → bit (w / 2 ^ i) j ≡ bit w (i + j)
 unfolding bit
 bit-shr w i j = ap (λ (x : ℕ). x % 2) (shr-shr w i j)
 
-bit-of-zero : (j : ℕ) → bit 0 j ≡ 0
+pub bit-of-zero : (j : ℕ) → bit 0 j ≡ 0
 bit-of-zero zero = bit-zero 0
 bit-of-zero (suc j) = bit-suc 0 j ∙ bit-of-zero j
 
 pub has-zero : (j : ℕ) → has 0 j ≡ false
 has-zero j = not-has 0 j (bit-of-zero j)
 
-bit-high : (k a j : ℕ) → a < 2 ^ k → k ≤ j → bit a j ≡ 0
+pub bit-high : (k a j : ℕ) → a < 2 ^ k → k ≤ j → bit a j ≡ 0
 bit-high zero a j h l = ap (λ (x : ℕ). bit x j) (lt-one h) ∙ bit-of-zero j
 bit-high (suc k) a zero h l = absurd (not-suc-le-zero l)
 bit-high (suc k) a (suc j) h l = bit-suc a j ∙ bit-high k (a / 2) j (omega (arith, pow-suc 2 k)) (omega arith)
@@ -95,11 +92,11 @@ bit-not (suc k) a (suc j) h l =
     half = omega (arith, pow-suc 2 k, pow-pos k)
 
 -- the answers of `has` follow those of `bit` through any of the three
-by-bits : (w j : ℕ) (t : Bool) → (t ≡ true → bit w j ≡ 1) → (t ≡ false → bit w j ≡ 0) → has w j ≡ t
+pub by-bits : (w j : ℕ) (t : Bool) → (t ≡ true → bit w j ≡ 1) → (t ≡ false → bit w j ≡ 0) → has w j ≡ t
 by-bits w j true f g = one-has w j (f refl)
 by-bits w j false f g = not-has w j (g refl)
 
-bit-has : (w j : ℕ) → bit w j ≡ cond (has w j) 1 0
+pub bit-has : (w j : ℕ) → bit w j ≡ cond (has w j) 1 0
 bit-has w j = go (has w j) refl
   where
     go : (t : Bool) → has w j ≡ t → bit w j ≡ cond t 1 0
@@ -144,7 +141,7 @@ has-ext k a b ha hb e =
     bit-ext k a b ha hb (λ j l. bit-has a j ∙ ap (λ (t : Bool). cond t 1 0) (e j l) ∙ sym (bit-has b j))
 
 -- a word with no bit is 0
-has-none : (k a : ℕ) → a < 2 ^ k → ((j : ℕ) → j < k → has a j ≡ false) → a ≡ 0
+pub has-none : (k a : ℕ) → a < 2 ^ k → ((j : ℕ) → j < k → has a j ≡ false) → a ≡ 0
 has-none k a h e = has-ext k a 0 h (pow-pos k) (λ j l. e j l ∙ sym (has-zero j))
 
 -- a power of two has one bit
@@ -229,145 +226,3 @@ contains k x y hx hy f = none-meets k x ((2 ^ k - 1) - y) hx (λ j l. go j l (ha
     go : (j : ℕ) → j < k → (t : Bool) → has x j ≡ t → (t && has ((2 ^ k - 1) - y) j) ≡ false
     go j l true e = has-not-word k y j hy l ∙ ap not (f j l e)
     go j l false e = refl
-
--- the lowest set bit, by trailing zeros
-tz-at : (k a : ℕ) → a < 2 ^ k → (a ≡ 0 → ⊥) → bit a (trailingZeros k a) ≡ 1
-unfolding trailingZeros
-tz-at zero a h n = absurd (n (lt-one h))
-tz-at (suc k) a h n =
-    under-at (a % 2) (trailingZeros k (a / 2)) refl
-    (λ e. tz-at k (a / 2) (omega (arith, pow-suc 2 k)) (λ z. n (omega arith)))
-  where
-    under-at : (d t : ℕ) → a % 2 ≡ d → (d ≡ 0 → bit (a / 2) t ≡ 1) → bit a (under d t) ≡ 1
-    under-at zero t e h = bit-suc a t ∙ h refl
-    under-at (suc d) t e h = bit-zero a ∙ omega arith
-
-tz-below : (k a j : ℕ) → j < trailingZeros k a → bit a j ≡ 0
-unfolding trailingZeros
-tz-below zero a j l = absurd (not-suc-le-zero l)
-tz-below (suc k) a j l = go (a % 2) (trailingZeros k (a / 2)) j refl (λ i h. tz-below k (a / 2) i h) l
-  where
-    go : (d t i : ℕ) → a % 2 ≡ d → ((i : ℕ) → i < t → bit (a / 2) i ≡ 0) → i < under d t → bit a i ≡ 0
-    go zero t zero e ih l = bit-zero a ∙ e
-    go zero t (suc i) e ih l = bit-suc a i ∙ ih i (omega arith)
-    go (suc d) t i e ih l = absurd (not-suc-le-zero l)
-
--- in the word shifted down by y, the lowest set bit is the lowest from y on
-module _ (w y : ℕ) (hw : w < 2 ^ 64) (hy : y < 64) where
-  shifted : (i : ℕ) → y ≤ i → bit w i ≡ bit (w / 2 ^ y) (i - y)
-  shifted i l =
-      let e : y + (i - y) ≡ i = omega arith in
-      ap (bit w) (sym e) ∙ sym (bit-shr w y (i - y))
-
-  pub next-none : w / 2 ^ y ≡ 0 → Lowest (has w) y (64 - y) 64
-  next-none e = record {
-    from = omega arith;
-    within = omega arith;
-    none = λ i l h. not-has w i (shifted i l ∙ ap (λ (x : ℕ). bit x (i - y)) e ∙ bit-of-zero (i - y));
-    found = λ h. absurd (omega arith);
-  }
-
-  pub next-found : (w / 2 ^ y ≡ 0 → ⊥) → Lowest (has w) y (64 - y) (y + trailingZeros 64 (w / 2 ^ y))
-  next-found n =
-      let t : ℕ = trailingZeros 64 (w / 2 ^ y) in
-      let one : bit w (y + t) ≡ 1 = sym (bit-shr w y t) ∙ tz-at 64 (w / 2 ^ y) (omega (arith, shr-le w y)) n in
-      let in-word : suc (y + t) ≤ 64 =
-      by-contra (suc (y + t)) 64 (λ l. omega (arith, one, bit-high 64 w (y + t) hw (omega arith))) in
-      record {
-        from = omega arith;
-        within = omega arith;
-        none = λ i l h. not-has w i (shifted i l ∙ tz-below 64 (w / 2 ^ y) (i - y) (omega arith));
-        found = λ h. one-has w (y + t) one;
-      }
-
--- one less: the lowest set bit t turns to 0, and the bits above it stay
-abbrev Bottom : ℕ → ℕ → Type 0
-Bottom w t = (bit w t ≡ 1) × ((i : ℕ) → i < t → bit w i ≡ 0)
-
-half-bottom : (w t : ℕ) → Bottom w (suc t) → Bottom (w / 2) t
-half-bottom w t b =
-    (sym (bit-suc w t) ∙ b .0, λ i l. sym (bit-suc w i) ∙ b .1 (suc i) (omega arith))
-
--- above an even word's lowest bit, one less is one less in the half
-half-pred : (w t : ℕ) → Bottom w (suc t) → (w - 1) / 2 ≡ w / 2 - 1
-half-pred w t b = go (w / 2) refl
-  where
-    go : (h : ℕ) → w / 2 ≡ h → (w - 1) / 2 ≡ w / 2 - 1
-    go zero e = absurd (omega (arith, half-bottom w t b .0, ap (λ (x : ℕ). bit x t) e, bit-of-zero t))
-    go (suc h) e = omega (arith, bit-zero w, b .1 0 (omega arith))
-
-pred-at : (t w : ℕ) → Bottom w t → bit (w - 1) t ≡ 0
-pred-at zero w b = bit-zero (w - 1) ∙ omega (arith, bit-zero w, b .0)
-pred-at (suc t) w b =
-    bit-suc (w - 1) t ∙ ap (λ (x : ℕ). bit x t) (half-pred w t b) ∙ pred-at t (w / 2) (half-bottom w t b)
-
-pred-above : (t w j : ℕ) → Bottom w t → t < j → bit (w - 1) j ≡ bit w j
-pred-above t w zero b l = absurd (not-suc-le-zero l)
-pred-above zero w (suc j) b l =
-    let half : (w - 1) / 2 ≡ w / 2 = omega (arith, bit-zero w, b .0) in
-    bit-suc (w - 1) j ∙ ap (λ (x : ℕ). bit x j) half ∙ sym (bit-suc w j)
-pred-above (suc t) w (suc j) b l =
-    bit-suc (w - 1) j ∙ ap (λ (x : ℕ). bit x j) (half-pred w t b)
-    ∙ pred-above t (w / 2) j (half-bottom w t b) (omega arith) ∙ sym (bit-suc w j)
-
--- w & (w - 1) is w without its lowest set bit
-pub without : (w j : ℕ) → w < 2 ^ 64 → (w ≡ 0 → ⊥) → has (bitAnd w (w - 1)) j ≡ (has w j && not (eqb (lowest (has w) 0 64) j))
-without w j h n = has-and w (w - 1) j ∙ go (decLt j t) (decLt t j)
-  where
-    t : ℕ
-    t = lowest (has w) 0 64
-
-    first : Lowest (has w) 0 64 t
-    first = lowest-is (has w) 0 64
-
-    in-word : t < 64
-    in-word = by-contra (suc t) 64 (λ l. n (has-none 64 w h (λ i k. first .none i (omega arith) (omega arith))))
-
-    bottom : Bottom w t
-    bottom = (has-one w t (first .found (omega (arith, in-word))), λ i l. has-not w i (first .none i (omega arith) l))
-
-    same : (x y : ℕ) → bit x j ≡ bit y j → has x j ≡ has y j
-    same x y e = by-bits x j (has y j) (λ a. e ∙ has-one y j a) (λ a. e ∙ has-not y j a)
-
-    twice : (a : Bool) → (a && a) ≡ (a && true)
-    twice true = refl
-    twice false = refl
-
-    go : Dec (j < t) → Dec (t < j) → (has w j && has (w - 1) j) ≡ (has w j && not (eqb t j))
-    go (yes a) b = rw (first .none j (omega arith) a)
-    go (no a) (yes b) =
-        rw (same (w - 1) w (pred-above t w j bottom b), ne-eqb t j (λ q. omega arith)) (twice (has w j))
-    go (no a) (no b) =
-        let e : t ≡ j = omega arith in
-        let low : has (w - 1) j ≡ false = not-has (w - 1) j (rw e at (pred-at t w bottom)) in
-        rw (low, eq-eqb t j e)
-
-pub without-none : (w j : ℕ) → w ≡ 0 → has 0 j ≡ (has w j && not (eqb (lowest (has w) 0 64) j))
-without-none w j e =
-    let none : has w j ≡ false = ap (λ (x : ℕ). has x j) e ∙ has-zero j in
-    has-zero j ∙ rw none
-
--- the count of set bits
-pub ones-count : (k a : ℕ) → a < 2 ^ k → ones a ≡ countTo (has a) k
-unfolding countTo ones
-ones-count zero a h = ap ones (lt-one h)
-ones-count (suc k) a h =
-    let one : suc k ≡ 1 + k = omega arith in
-    let low : countTo (has a) 1 ≡ a % 2 = rw zero-add first in
-    omega (
-      arith,
-      ones-step a,
-      ones-count k (a / 2) (omega (arith, pow-suc 2 k)),
-      ap (countTo (has a)) one,
-      count-add (has a) 1 k,
-      count-same (λ j. has a (1 + j)) (has (a / 2)) k (λ j l. shift j),
-    )
-  where
-    first : cond (has a 0) 1 0 ≡ a % 2
-    first = sym (bit-has a 0) ∙ bit-zero a
-
-    shift : (j : ℕ) → has a (1 + j) ≡ has (a / 2) j
-    shift j = by-bits a (1 + j) (has (a / 2) j) (λ e. next j ∙ has-one (a / 2) j e) (λ e. next j ∙ has-not (a / 2) j e)
-      where
-        next : (j : ℕ) → bit a (1 + j) ≡ bit (a / 2) j
-        next j = ap (bit a) (one-add j) ∙ bit-suc a j

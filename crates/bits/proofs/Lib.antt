@@ -4,5 +4,6 @@ pub mod SetLaws
 pub mod Sums
 pub mod ListLaws
 pub mod BitLaws
+pub mod SearchLaws
 pub mod RowLaws
 pub mod Promises

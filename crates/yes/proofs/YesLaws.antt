@@ -28,8 +28,8 @@ use Rattle.pack.specs.Record.{linesOf, Valid}
 use Rattle.pack.specs.Question.{counted, checkQuestion}
 use Rattle.pack.proofs.RuleLaws.{same-one}
 use Rattle.pack.proofs.Soundness.{derived-follows}
-use Rattle.tables.specs.Tables.{heldIn, held, addedConcepts, addedLinks, startTables}
-use Rattle.tables.proofs.TableLaws.{Whole, start-whole, start-held, held-added, whole-added}
+use Rattle.tables.specs.Tables.{heldIn, held, addedConcepts, addedLinks, startTables, Whole}
+use Rattle.tables.proofs.TableLaws.{start-whole, start-held, held-added, whole-added}
 use Rattle.yes.specs.declared.check.YesAnswer.{YesAnswer}
 use Rattle.yes.specs.declared.check.YesAnswer.the-variants as yes
 use Rattle.yes.specs.YesSheet.{stepIn, zerosIn, stepsOf, concluded, known, goodOver, goodAt, lowestBad, checkSteps, yesLengthFits, yesAfter, checkYes}

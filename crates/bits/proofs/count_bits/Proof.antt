@@ -1,5 +1,5 @@
 -- `count_bits`: the ones of a word of 64 bits are its set bits below 64, counted (`ones-count`).
-use Rattle.bits.proofs.BitLaws.{ones-count}
+use Rattle.bits.proofs.SearchLaws.{ones-count}
 use Rattle.bits.proofs.count_bits.Statement.{statement}
 use Rattle.bits.proofs.count_bits.Tie as tie
 

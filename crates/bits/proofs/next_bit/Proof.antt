@@ -6,7 +6,7 @@ use lib.Count.{trailingZeros}
 use borrow.Author.Needs.{needs}
 use Rattle.bits.specs.Bit.{has}
 use Rattle.bits.proofs.SetLaws.{Lowest, lowest-at, lowest-end}
-use Rattle.bits.proofs.BitLaws.{next-none, next-found}
+use Rattle.bits.proofs.SearchLaws.{next-none, next-found}
 use Rattle.bits.proofs.next_bit.Statement.{statement}
 use Rattle.bits.proofs.next_bit.Tie as tie
 

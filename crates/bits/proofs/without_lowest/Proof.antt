@@ -1,6 +1,6 @@
 -- `without_lowest`: bit by bit, w & (w - 1) lacks the lowest set bit alone (`without`); 0 has none (`without-none`).
 use borrow.Author.Needs.{needs}
-use Rattle.bits.proofs.BitLaws.{without, without-none}
+use Rattle.bits.proofs.SearchLaws.{without, without-none}
 use Rattle.bits.proofs.without_lowest.Statement.{statement}
 use Rattle.bits.proofs.without_lowest.Tie as tie
 
