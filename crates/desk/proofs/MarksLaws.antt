@@ -1,16 +1,11 @@
--- Laws of out marks for C: words put into their bytes one after the other, and the answers of the module and of the set.
+-- Laws of out marks for C: their bytes handed back as marks in, and the answers of the module and of the set.
 use mathlib.Core.Path.{_≡_, refl, sym, ap, _∙_}
-use mathlib.Core.List.{List, _++_, map, flatten, append-nil}
-use Prim.Native.Nat.{ℕ, _+_, _-_, _*_, _^_, _≤_, _<_}
-use native.Mathlib.Nat.{zero-add}
-use native.Mathlib.Numerals.{add-one}
+use mathlib.Core.List.{List, map, flatten}
+use Prim.Native.Nat.{ℕ, _^_, _<_}
 use native.Mathlib.Omega.{arith}
-use lib.ListN.{length, getD, take, drop, length-append, length-drop, drop-of-length-le}
-use lib.Seq.{take-suc, take-all, length-take-le, ext-getD}
+use lib.ListN.{length, getD}
 use borrow.Author.Tests.{eq-eqb}
-use borrow.Rule.Slice.PartMut.{putMid, post-is}
-use Rattle.bits.specs.Lists.{listed}
-use Rattle.bits.proofs.ListLaws.{listed-length, listed-at}
+use Rattle.bits.proofs.ListLaws.{listed-length}
 use Rattle.marks.specs.Marks.{marked, markCount, marksOf}
 use Rattle.marks.proofs.WordLaws.{marks-length, marks-small}
 use Rattle.pack.specs.declared.check.Checked.{Checked}
@@ -21,7 +16,7 @@ use Rattle.pack.specs.Question.{counted, Taken}
 use Rattle.pack.specs.World.{Follows}
 use Rattle.pack.specs.Record.{linesOf}
 use Rattle.writer.specs.Sheet.{wordBytes}
-use Rattle.writer.proofs.BytesLaws.{parts-length, parts-all, parts-on, word-length, word-in, with-part}
+use Rattle.writer.proofs.BytesLaws.{listed-is, parts-length, parts-all, word-length, word-in}
 use Rattle.reasons.specs.declared.set.SetAnswer.{SetAnswer}
 use Rattle.reasons.specs.declared.set.SetAnswer.the-variants as sets
 use Rattle.reasons.specs.Reach.{moduleOf}
@@ -33,30 +28,6 @@ use Rattle.reasons.proofs.SetLaws.{set-length}
 use Rattle.reasons.proofs.SetRight.{set-found, set-printed}
 use Rattle.desk.specs.Desk.{deskCode, checkedCode, setCodeOf, wordsBytes, askModuleC, moduleCode, moduleBytes, setCode, setBytes}
 
--- the bytes of the first j words, and what stands after them
-abbrev pub Filled : List ℕ → List ℕ → ℕ → List ℕ
-Filled ws out₀ j = wordsBytes (take j ws) ++ drop (8 * j) out₀
-
-module _ (ws out₀ : List ℕ) (sixteen : length ws ≡ 16) (all : length out₀ ≡ 128) where
-  bytes-length : (j : ℕ) → j ≤ 16 → length (wordsBytes (take j ws)) ≡ 8 * j
-  unfolding wordsBytes
-  bytes-length j h = parts-length wordBytes word-length (take j ws) ∙ ap (λ (k : ℕ). 8 * k) (length-take-le j ws (omega arith))
-
-  pub filled-length : (j : ℕ) → j ≤ 16 → length (Filled ws out₀ j) ≡ 128
-  filled-length j h = simp (length-append, length-drop) (omega (arith, bytes-length j h))
-
-  -- WORD j INTO ITS PART
-  pub filled-more : (out : List ℕ) (j : ℕ) {bytes : List ℕ} → j < 16 → out ≡ Filled ws out₀ j → bytes ≡ wordBytes (getD ws j 0) → putMid (j * 8) ((j * 8 + 8) - j * 8) out bytes ≡ Filled ws out₀ (j + 1)
-  unfolding wordsBytes
-  filled-more out j {bytes} h e g =
-      rw (e, g, post-is (j * 8) (j * 8 + 8) (Filled ws out₀ j) (omega arith))
-      (sym (with-part (Filled ws out₀ j) j (wordBytes (getD ws j 0)) (omega (arith, filled-length j (omega arith))))
-      ∙ parts-on wordBytes word-length (take j ws) (getD ws j 0) j out₀ (length-take-le j ws (omega arith)) (omega arith)
-      ∙ ap (λ (l : List ℕ). flatten (map wordBytes l) ++ drop (8 * (j + 1)) out₀) (sym (ap (λ (k : ℕ). take k ws) (add-one j) ∙ take-suc ws j 0 (omega arith))))
-
-  pub filled-end : Filled ws out₀ 16 ≡ wordsBytes ws
-  filled-end = rw (take-all 16 ws (omega arith), drop-of-length-le out₀ {i = 128} (omega arith)) (append-nil (wordsBytes ws))
-
 -- THE BYTES OF 16 WORDS, handed back as marks in, ARE THOSE WORDS
 bytes-back : (ws : List ℕ) → length ws ≡ 16 → ((j : ℕ) → j < 16 → getD ws j 0 < 2 ^ 64) → marksIn (wordsBytes ws) ≡ ws
 unfolding wordsIn wordsBytes
@@ -64,13 +35,7 @@ bytes-back ws sixteen small =
     let bytes = flatten (map wordBytes ws) in
     let at : ℕ → ℕ = λ j. wordIn (part bytes j) in
     rw (eq-eqb (length bytes) 128 (parts-length wordBytes word-length ws ∙ omega arith))
-    (ext-getD 0 (listed 16 0 at) ws (listed-length at 16 0 ∙ sym sixteen)
-    (λ j h.
-    let l : j < 16 = omega (arith, listed-length at 16 0) in
-    listed-at at 0 16 0 j l
-    ∙ ap at (zero-add j)
-    ∙ ap wordIn (parts-all wordBytes word-length ws j 0 (omega arith))
-    ∙ word-in (getD ws j 0) (small j l)))
+    (listed-is at 0 16 ws sixteen (λ j l. ap wordIn (parts-all wordBytes word-length ws j 0 (omega arith)) ∙ word-in (getD ws j 0) (small j l)))
 
 -- bytes of the right length are 16 words
 read-length : (out : List ℕ) → length out ≡ 128 → length (marksIn out) ≡ 16

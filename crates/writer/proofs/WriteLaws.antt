@@ -1,23 +1,19 @@
--- Laws of the sheet writer: rows put into their parts one after the other, and what the answers leave on the sheet.
+-- Laws of the sheet writer: the rows of the finished passes, and what the answers leave on the sheet.
 use mathlib.Core.Path.{_≡_, refl, sym, ap, _∙_}
 use mathlib.Core.Bool.{Bool, true, false, cond}
-use mathlib.Core.List.{List, [], _∷_, _++_, map, flatten, reverse, append-assoc, append-nil}
+use mathlib.Core.List.{List, [], _++_, map, flatten, reverse, append-nil}
 use Prim.Native.Nat.{ℕ, _+_, _-_, _*_, _/_, _%_, _^_, _≤_, _<_}
 use native.Mathlib.Decide.{decLt}
-use native.Mathlib.Nat.{zero-add, mul-comm, mul-add, mul-one, mod-lt, div-add-mod', div-lt-iff-lt-mul}
-use native.Mathlib.Numerals.{add-one}
+use native.Mathlib.Nat.{mul-comm, mul-add, mul-one, mod-lt, div-add-mod', div-lt-iff-lt-mul}
 use native.Mathlib.Omega.{arith}
 use lib.Dec.{leb}
-use lib.ListN.{length, getD, drop, length-append, length-drop, length-reverse, drop-of-length-le}
-use lib.Seq.{take-at, drop-append-add, drop-drop, ext-getD}
+use lib.ListN.{length, getD, drop, length-reverse, drop-of-length-le}
 use borrow.Author.Tests.{le-leb, lt-leb, lt-ltb, le-ltb, eq-eqb}
-use borrow.Rule.Slice.PartMut.{putMid, post-is}
 use Rattle.bits.specs.Bit.{has, row}
 use Rattle.bits.specs.Lists.{listed}
 use Rattle.bits.proofs.BitLaws.{has-high}
 use Rattle.bits.proofs.Truth.{never}
 use Rattle.bits.proofs.RowLaws.{row-only}
-use Rattle.bits.proofs.ListLaws.{listed-length, listed-at, listed-snoc}
 use Rattle.pack.specs.declared.check.Checked.the-variants as checked
 use Rattle.pack.specs.declared.line.Fact.{Fact}
 use Rattle.pack.specs.declared.line.Fact.the-variants.{In, Link}
@@ -44,45 +40,7 @@ use Rattle.writer.specs.declared.write.SheetAnswer.{SheetAnswer}
 use Rattle.writer.specs.declared.write.SheetAnswer.the-variants as answer
 use Rattle.writer.specs.Sheet.{wordBytes, yesBytes, noBytes, ourSheet, sheetAnswer, sheetOut, askSheet, writtenSheet}
 use Rattle.writer.specs.Inner.{rowIn, rowsBytes}
-use Rattle.writer.proofs.BytesLaws.{parts-length, parts-more, word-length, with-steps, yes-length, no-length}
-
-module _ (n : ℕ) (cs lks : List ℕ) where
-  -- the bytes of the first i rows, and what stands after them
-  abbrev pub Filled : List ℕ → ℕ → List ℕ
-  Filled sheet₀ i = rowsBytes n i cs lks ++ drop (i * 8) sheet₀
-
-  pub rows-length : (i : ℕ) → length (rowsBytes n i cs lks) ≡ i * 8
-  unfolding rowsBytes
-  rows-length i = parts-length wordBytes word-length (listed i 0 (rowIn n cs lks)) ∙ omega (arith, listed-length (rowIn n cs lks) i 0)
-
-  rows-more : (i : ℕ) → rowsBytes n (i + 1) cs lks ≡ rowsBytes n i cs lks ++ wordBytes (rowIn n cs lks i)
-  unfolding rowsBytes flatten
-  rows-more i =
-      let e : listed (i + 1) 0 (rowIn n cs lks) ≡ listed i 0 (rowIn n cs lks) ++ (rowIn n cs lks i ∷ []) =
-      ap (λ (c : ℕ). listed c 0 (rowIn n cs lks)) (add-one i) ∙ listed-snoc (rowIn n cs lks) i 0 ∙ ap (λ (j : ℕ). listed i 0 (rowIn n cs lks) ++ (rowIn n cs lks j ∷ [])) (zero-add i) in
-      ap (λ (l : List ℕ). flatten (map wordBytes l)) e ∙ parts-more wordBytes word-length (listed i 0 (rowIn n cs lks)) (rowIn n cs lks i)
-
-  pub filled-start : (sheet₀ : List ℕ) → sheet₀ ≡ Filled sheet₀ 0
-  unfolding rowsBytes listed flatten
-  filled-start sheet₀ = refl
-
-  pub filled-length : (sheet₀ : List ℕ) (i : ℕ) → i * 8 ≤ length sheet₀ → length (Filled sheet₀ i) ≡ length sheet₀
-  filled-length sheet₀ i h = simp (length-append, length-drop) (omega (arith, rows-length i))
-
-  -- ROW i INTO ITS PART
-  pub filled-more : (sheet₀ sheet : List ℕ) (i : ℕ) {part : List ℕ} {w : ℕ} → i * 8 + 8 ≤ length sheet₀ → sheet ≡ Filled sheet₀ i → w ≡ rowIn n cs lks i → part ≡ wordBytes w → putMid (i * 8) ((i * 8 + 8) - i * 8) sheet part ≡ Filled sheet₀ (i + 1)
-  filled-more sheet₀ sheet i h e v g =
-      let rows = rowsBytes n i cs lks in
-      let l = rows-length i in
-      let at-end : i * 8 + 8 ≡ length rows + 8 = omega arith in
-      let next : i * 8 + 8 ≡ (i + 1) * 8 = omega arith in
-      let d : drop (i * 8 + 8) (Filled sheet₀ i) ≡ drop ((i + 1) * 8) sheet₀ =
-      ap (λ (k : ℕ). drop k (Filled sheet₀ i)) at-end
-      ∙ drop-append-add rows (drop (i * 8) sheet₀) 8
-      ∙ drop-drop 8 (i * 8) sheet₀
-      ∙ ap (λ (k : ℕ). drop k sheet₀) next in
-      rw (e, g, v, post-is (i * 8) (i * 8 + 8) (Filled sheet₀ i) (omega arith), take-at rows (drop (i * 8) sheet₀) (i * 8) l, d, rows-more i)
-      (sym (append-assoc rows (wordBytes (rowIn n cs lks i)) (drop ((i + 1) * 8) sheet₀)))
+use Rattle.writer.proofs.BytesLaws.{listed-is, with-steps, yes-length, no-length}
 
 -- a row past the concept rows is of one of the roles
 pub div-less : (i n : ℕ) → 1 ≤ n → i < n * 9 → n ≤ i → (i - n) / n < 8
@@ -171,12 +129,7 @@ module _ (n m : ℕ) (ls : List Line) (S : ℕ → Bool) (blank cs lks sheet : L
           rw e (link-row r x lr lm lx w ∙ sym (row-links ls S n m r x lr lx) ∙ ap (λ (j : ℕ). getD (ourRows ls S n m) j 0) there)
 
   our-rows : m ≤ 8 → listed (n * (1 + m)) 0 (rowIn n cs lks) ≡ ourRows ls S n m
-  our-rows lm =
-      ext-getD 0 (listed (n * (1 + m)) 0 (rowIn n cs lks)) (ourRows ls S n m)
-      (listed-length (rowIn n cs lks) (n * (1 + m)) 0 ∙ sym (ours.rows-length ls S n m))
-      (λ i h.
-      let l : i < n * (1 + m) = omega (arith, listed-length (rowIn n cs lks) (n * (1 + m)) 0) in
-      listed-at (rowIn n cs lks) 0 (n * (1 + m)) 0 i l ∙ ap (rowIn n cs lks) (zero-add i) ∙ row-at lm i l)
+  our-rows lm = listed-is (rowIn n cs lks) 0 (n * (1 + m)) (ourRows ls S n m) (ours.rows-length ls S n m) (row-at lm)
 
 -- the sheets of a question that is taken
 module _ (n m : ℕ) (s ws : List ℕ) (a b : ℕ) {c : ℕ} (taken : checkQuestion n m s ws a b ≡ checked.Count c) (sheet : List ℕ) where
@@ -207,8 +160,8 @@ module _ (n m : ℕ) (s ws : List ℕ) (a b : ℕ) {c : ℕ} (taken : checkQuest
         go true h =
             let e = end-held n m s ws a b taken differ blank cs lks part k ran h .1 in
             let same : length (e .0) ≡ steps = sym (length-reverse (e .0)) ∙ ap length (sym (e .1)) ∙ sym many in
-            let full : 8 * length (e .0) ≡ length blank = omega arith in
-            let rest : drop (8 * length (e .0)) blank ≡ [] = drop-of-length-le blank {i = 8 * length (e .0)} (omega arith) in
+            let full : length (e .0) * 8 ≡ length blank = omega arith in
+            let rest : drop (length (e .0) * 8) blank ≡ [] = drop-of-length-le blank {i = length (e .0) * 8} (omega arith) in
             let bytes : part ≡ yesBytes n m s ws a b =
             e .3 .bytes ∙ with-steps blank (e .0) (omega arith) ∙ ap (λ (l : List ℕ). flatten (map stepBytes (reverse (e .0))) ++ l) rest ∙ append-nil (flatten (map stepBytes (reverse (e .0))))
             ∙ ap (λ (l : List Step). flatten (map stepBytes l)) (sym (e .1)) in

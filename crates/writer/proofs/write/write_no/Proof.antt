@@ -1,16 +1,14 @@
--- `write_no`: at most 576 rows (`rows-few`): NO ROOM, the sheet as it was, or each row in 8 bytes (`rows-length`).
-use mathlib.Core.Path.{refl, sym, ap, _∙_}
-use mathlib.Core.List.{_++_}
-use Prim.Native.Nat.{ℕ, _+_, _*_}
+-- `write_no`: at most 576 rows (`rows-few`): NO ROOM, the sheet as it was, or each row in 8 bytes (`words-length`).
+use mathlib.Core.Path.{refl, ap}
+use Prim.Native.Nat.{_+_, _*_}
 use native.Mathlib.Nat.{mul-comm, mul-le-mul-left}
 use native.Mathlib.Omega.{arith}
-use lib.ListN.{drop}
 use borrow.Author.Needs.{needs}
 use borrow.Author.Tests.{le-leb, lt-leb}
 use Rattle.no.proofs.NoLaws.{rows-few}
 use Rattle.writer.specs.declared.write.SheetAnswer.the-variants.{NoRoom}
-use Rattle.writer.specs.Inner.{rowsBytes}
-use Rattle.writer.proofs.WriteLaws.{rows-length}
+use Rattle.writer.specs.Inner.{rowIn, rowsBytes}
+use Rattle.writer.proofs.BytesLaws.{words-length}
 use Rattle.writer.proofs.write.write_no.Statement.{statement}
 use Rattle.writer.proofs.write.write_no.Tie as tie
 
@@ -43,13 +41,11 @@ same-length : tie.Need-same-length
 same-length c = search needs
 
 returns-2 : tie.Need-returns-2
+unfolding rowsBytes
 returns-2 c =
     let a = c .before .before .before .before .before .before .args in
     let w = c .before .before .write-rows .ensures in
-    let long = rows-length (a .n) (a .concepts .now) (a .links .now) (a .n * (1 + a .m)) in (
-      rw (le-leb _ _ (c .before .before .before .before .if1 .left)),
-      (w .0 ∙ ap (λ (k : ℕ). rowsBytes (a .n) (a .n * (1 + a .m)) (a .concepts .now) (a .links .now) ++ drop k (a .sheet .now)) (sym long), λ h. w .1),
-    )
+    (rw (le-leb _ _ (c .before .before .before .before .if1 .left)), (rw (words-length (rowIn (a .n) (a .concepts .now) (a .links .now)) (a .n * (1 + a .m))) (w .0), λ h. w .1))
 
 pub write-no-spec : {M : Type 1} → statement M
 write-no-spec =
