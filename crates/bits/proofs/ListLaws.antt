@@ -5,7 +5,7 @@ use Prim.Native.Nat.{ℕ, zero, suc, _+_, _≤_, _<_}
 use native.Mathlib.Numerals.{add-one}
 use native.Mathlib.Omega.{arith}
 use lib.ListN.{length, getD, take, set}
-use lib.Seq.{take-suc-set, take-all}
+use lib.Seq.{take-suc-set, take-all, ext-getD}
 use Rattle.bits.specs.Lists.{listed}
 
 module _ {A : Type 0} (f : ℕ → A) where
@@ -19,6 +19,12 @@ module _ {A : Type 0} (f : ℕ → A) where
   listed-at d zero i j h = absurd (omega arith)
   listed-at d (suc c) i zero h = ap f (omega arith)
   listed-at d (suc c) i (suc j) h = listed-at d c (i + 1) j (omega arith) ∙ ap f (omega arith)
+
+  -- a list whose elements go by the rule is the listed one
+  pub listed-is : (d : A) (c : ℕ) (l : List A) → length l ≡ c → ((j : ℕ) → j < c → f j ≡ getD l j d) → listed c 0 f ≡ l
+  listed-is d c l e h =
+      ext-getD d (listed c 0 f) l (listed-length c 0 ∙ sym e)
+      (λ j k. let b : j < c = omega (arith, listed-length c 0) in listed-at d c 0 j b ∙ ap f (omega arith) ∙ h j b)
 
   -- one more at the end
   pub listed-snoc : (c i : ℕ) → listed (suc c) i f ≡ listed c i f ++ (f (i + c) ∷ [])

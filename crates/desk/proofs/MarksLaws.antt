@@ -5,7 +5,7 @@ use Prim.Native.Nat.{ℕ, _^_, _<_}
 use native.Mathlib.Omega.{arith}
 use lib.ListN.{length, getD}
 use borrow.Author.Tests.{eq-eqb}
-use Rattle.bits.proofs.ListLaws.{listed-length}
+use Rattle.bits.proofs.ListLaws.{listed-length, listed-is}
 use Rattle.marks.specs.Marks.{marked, markCount, marksOf}
 use Rattle.marks.proofs.WordLaws.{marks-length, marks-small}
 use Rattle.pack.specs.declared.check.Checked.{Checked}
@@ -16,7 +16,7 @@ use Rattle.pack.specs.Question.{counted, Taken}
 use Rattle.pack.specs.World.{Follows}
 use Rattle.pack.specs.Record.{linesOf}
 use Rattle.writer.specs.Sheet.{wordBytes}
-use Rattle.writer.proofs.BytesLaws.{listed-is, parts-length, parts-all, word-length, word-in}
+use Rattle.writer.proofs.BytesLaws.{parts-length, parts-all, word-length, word-in}
 use Rattle.reasons.specs.declared.set.SetAnswer.{SetAnswer}
 use Rattle.reasons.specs.declared.set.SetAnswer.the-variants as sets
 use Rattle.reasons.specs.Reach.{moduleOf}

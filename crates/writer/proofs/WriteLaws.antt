@@ -14,6 +14,7 @@ use Rattle.bits.specs.Lists.{listed}
 use Rattle.bits.proofs.BitLaws.{has-high}
 use Rattle.bits.proofs.Truth.{never}
 use Rattle.bits.proofs.RowLaws.{row-only}
+use Rattle.bits.proofs.ListLaws.{listed-is}
 use Rattle.pack.specs.declared.check.Checked.the-variants as checked
 use Rattle.pack.specs.declared.line.Fact.{Fact}
 use Rattle.pack.specs.declared.line.Fact.the-variants.{In, Link}
@@ -40,7 +41,7 @@ use Rattle.writer.specs.declared.write.SheetAnswer.{SheetAnswer}
 use Rattle.writer.specs.declared.write.SheetAnswer.the-variants as answer
 use Rattle.writer.specs.Sheet.{wordBytes, yesBytes, noBytes, ourSheet, sheetAnswer, sheetOut, askSheet, writtenSheet}
 use Rattle.writer.specs.Inner.{rowIn, rowsBytes}
-use Rattle.writer.proofs.BytesLaws.{listed-is, with-steps, yes-length, no-length}
+use Rattle.writer.proofs.BytesLaws.{with-steps, yes-length, no-length}
 
 -- a row past the concept rows is of one of the roles
 pub div-less : (i n : ℕ) → 1 ≤ n → i < n * 9 → n ≤ i → (i - n) / n < 8

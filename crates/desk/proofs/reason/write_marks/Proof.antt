@@ -4,7 +4,8 @@ use mathlib.Core.List.{append-nil}
 use Prim.Native.Nat.{_-_, _≤_}
 use native.Mathlib.Omega.{arith}
 use lib.ListN.{length, getD, length-take, length-drop, drop-of-length-le}
-use Rattle.writer.proofs.BytesLaws.{listed-is, Filled, filled-start, filled-length, filled-more}
+use Rattle.bits.proofs.ListLaws.{listed-is}
+use Rattle.writer.proofs.BytesLaws.{Filled, filled-start, filled-length, filled-more}
 use Rattle.desk.specs.Desk.{wordsBytes}
 use Rattle.desk.proofs.reason.write_marks.Statement.{statement}
 use Rattle.desk.proofs.reason.write_marks.Tie as tie
