@@ -1,6 +1,6 @@
 -- What the calls for C return: the table's number in the low byte (0: none), and the value above it.
-use Prim.Native.Nat.{ℕ, _+_, _*_}
 use mathlib.Core.List.{List, map, flatten}
+use Prim.Native.Nat.{ℕ, _+_, _*_}
 use Rattle.pack.specs.declared.check.Checked.{Checked}
 use Rattle.pack.specs.Answers.{checkedNumber, checkedValue}
 use Rattle.pack.specs.Bytes.{marksIn}
@@ -12,8 +12,8 @@ use Rattle.engine.specs.Verdict.{askVerdict}
 use Rattle.writer.specs.declared.write.SheetAnswer.{SheetAnswer}
 use Rattle.writer.specs.declared.write.SheetAnswer.the-variants as answer
 use Rattle.writer.specs.Sheet.{wordBytes, askSheet, sheetNumber, sheetValue}
-use Rattle.reasons.specs.Module.{moduleMarks, moduleOut, askModule}
 use Rattle.reasons.specs.declared.set.SetAnswer.{SetAnswer}
+use Rattle.reasons.specs.Module.{moduleMarks, moduleOut, askModule}
 use Rattle.reasons.specs.Set.{setNumber, setValue, setMarks, setOut, askSet}
 
 abbrev pub deskCode : ℕ → ℕ → ℕ

@@ -22,7 +22,8 @@ use Rattle.yes.specs.YesSheet.{concluded, known, numberFits, usable, goodOver}
 use Rattle.passes.specs.Saturation.{said, holds}
 use Rattle.passes.specs.Passes.{el, notFree, finished, table, verdict}
 use Rattle.passes.specs.Ours.{ourSteps}
-use Rattle.passes.proofs.LoopLaws.{Later, later-refl, later-cons, later-trans}
+use Rattle.passes.specs.Stop.{Later}
+use Rattle.passes.proofs.LoopLaws.{later-refl, later-cons, later-trans}
 use Rattle.passes.proofs.SaturationLaws.{Added, Built, built-later}
 use Rattle.passes.proofs.PassLaws.{BuiltSteps, steps-most, finished-built}
 use Rattle.passes.proofs.StopLaws.{said-reverse, reached-said, first-reached, ours-reached, ours-none}

@@ -10,9 +10,9 @@ use Rattle.bits.proofs.Truth.{never}
 use Rattle.marks.specs.Marks.{marked, marksOf, cutOut}
 use Rattle.marks.proofs.MarkLaws.{next-lowest}
 use Rattle.marks.proofs.CutLaws.{cut-before, cut-after, cut-gone, cut-fewer, cut-marked}
+use Rattle.marks.proofs.WordLaws.{sixteen-again}
 use Rattle.reasons.specs.Printed.{Within, IsPicked}
 use Rattle.reasons.specs.Inner.{Between, Next}
-use Rattle.marks.proofs.WordLaws.{sixteen-again}
 use Rattle.reasons.proofs.PickLaws.{Settled, Cut, cut-settled, cut-picked, kept-settled, settled-picked}
 
 -- the places of a range cut out

@@ -13,12 +13,12 @@ use Rattle.bits.specs.Sets.{countTo}
 use Rattle.bits.proofs.Truth.{and-true, true-and, or-elim, or-left, or-right, or-false, never}
 use Rattle.bits.proofs.BitLaws.{has-with, has-zero}
 use Rattle.bits.proofs.SetLaws.{Lowest, count-le, count-fewer}
+use Rattle.bits.proofs.RowLaws.{word-same}
 use Rattle.pack.specs.declared.line.Line.{Line}
 use Rattle.pack.specs.World.{lineAt}
 use Rattle.reasons.specs.declared.reach.Names.{Names}
 use Rattle.reasons.specs.Reach.{Name, concept, role, leftNames, rightNames, allIn, Reaches, moduleIn, sameName}
 use Rattle.reasons.specs.Names.{nameIn, withName, withNames, withLine, Inside, Passed, Unreached}
-use Rattle.bits.proofs.RowLaws.{word-same}
 use Rattle.reasons.proofs.ReachLaws.{name-self, name-one}
 
 -- ONE NAME MORE: that name and those that were there

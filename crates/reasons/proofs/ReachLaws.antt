@@ -15,7 +15,8 @@ use Rattle.pack.specs.World.{lineAt}
 use Rattle.pack.specs.Record.{ValidLine, Valid}
 use Rattle.passes.specs.Loop.{gate}
 use Rattle.passes.specs.Saturation.{holds, attempt, runs}
-use Rattle.passes.proofs.LoopLaws.{loop-keeps, gate-keeps, Later, gate-later, loop-later, Comes, comes-trans, gate-comes, loop-comes}
+use Rattle.passes.specs.Stop.{Later}
+use Rattle.passes.proofs.LoopLaws.{loop-keeps, gate-keeps, gate-later, loop-later, Comes, comes-trans, gate-comes, loop-comes}
 use Rattle.passes.proofs.SaturationLaws.{Built, Closed, Sweep, attempt-later, attempt-built, built-within, end-built, end-closed}
 use Rattle.reasons.specs.Reach.{Name, concept, role, leftNames, rightNames, allIn, Reaches, IsReached, moduleIn, IsModule, Arrow, sameName, nameAt, reach, bothSides, reachPass, reached, moduleOf}
 

@@ -15,9 +15,9 @@ use Rattle.pack.specs.declared.check.Refusal.{Refusal}
 use Rattle.pack.specs.Question.{counted, Taken}
 use Rattle.pack.specs.Record.{linesOf}
 use Rattle.pack.specs.World.{Follows}
+use Rattle.pack.proofs.QuestionLaws.{asked, asked-valid}
 use Rattle.passes.specs.Passes.{verdict}
 use Rattle.engine.specs.Verdict.{askVerdict}
-use Rattle.pack.proofs.QuestionLaws.{asked, asked-valid}
 use Rattle.reasons.specs.declared.set.SetAnswer.the-variants as answer
 use Rattle.reasons.specs.Names.{TakenOf}
 use Rattle.reasons.specs.Printed.{IsPicked, IsPrinted, without, spared, picked, printed}

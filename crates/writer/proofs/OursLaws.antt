@@ -25,6 +25,7 @@ use Rattle.pack.specs.Question.{counted, checkQuestion}
 use Rattle.pack.specs.Record.{linesOf}
 use Rattle.pack.specs.World.{World, Is, Obeys, Follows}
 use Rattle.pack.proofs.RecordLaws.{lines-length}
+use Rattle.pack.proofs.QuestionLaws.{asked, asked-valid}
 use Rattle.yes.specs.declared.check.YesAnswer.the-variants as yes
 use Rattle.yes.specs.YesSheet.{stepIn, zerosIn, stepsOf, known, goodOver, goodAt, checkYes}
 use Rattle.yes.proofs.YesLaws.{yes-accepts}
@@ -38,7 +39,6 @@ use Rattle.passes.proofs.YesLaws.{ours-good, ours-usable, ours-known, ours-most
 use Rattle.passes.proofs.NoLaws.{rows-length, rows-small, ourWorld, rows-obey, rows-refute}
 use Rattle.sweep.specs.Writing.{stepBytes}
 use Rattle.engine.specs.Verdict.{follows}
-use Rattle.pack.proofs.QuestionLaws.{asked, asked-valid}
 use Rattle.engine.proofs.VerdictLaws.{too-long-never}
 use Rattle.writer.specs.declared.write.SheetAnswer.{SheetAnswer}
 use Rattle.writer.specs.declared.write.SheetAnswer.the-variants as sheets

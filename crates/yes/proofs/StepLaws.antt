@@ -17,9 +17,9 @@ use Rattle.pack.specs.Record.{linesOf, lineAtPlace, Valid}
 use Rattle.pack.specs.Question.{counted}
 use Rattle.pack.specs.Rules.{premiseOneOf, premiseTwoOf, conclusion, conclusionOf, usesY, usesZ, Fits, Usable}
 use Rattle.pack.proofs.RecordLaws.{lines-length, lines-at}
+use Rattle.pack.proofs.Ranges.{conclusion-range}
 use Rattle.tables.specs.Tables.{inTable, addedConcepts, addedLinks}
 use Rattle.tables.proofs.TableLaws.{in-table}
-use Rattle.pack.proofs.Ranges.{conclusion-range}
 use Rattle.yes.specs.YesSheet.{stepIn, numberFits, usable, goodOver, numbersFit, premisesKnown}
 
 -- THE TESTS OF THE CODE: the place counts, and the numbers and the premises are right for the line l there

@@ -4,8 +4,8 @@ use mathlib.Core.Path.{refl, sym, ap, _∙_}
 use native.Mathlib.Omega.{arith}
 use lib.ListN.{length, length-reverse}
 use borrow.Author.Needs.{needs}
-use Rattle.tables.specs.Tables.{held}
 use Rattle.pack.proofs.QuestionLaws.{asked}
+use Rattle.tables.specs.Tables.{held}
 use Rattle.engine.proofs.VerdictLaws.{end-few, end-held}
 use Rattle.writer.proofs.WriteLaws.{no-sheet}
 use Rattle.writer.proofs.write.write_settled.Statement.{statement}
