@@ -1,4 +1,5 @@
 -- `test_bit`: the word shifted down by j mod 64, its lowest bit compared with 1: `has` as it is defined.
+use mathlib.Core.Path.{refl}
 use borrow.Author.Needs.{needs}
 use Rattle.bits.specs.Bit.{has}
 use Rattle.bits.proofs.test_bit.Statement.{statement}
@@ -9,7 +10,7 @@ shr-result c = search needs
 
 returns : tie.Need-returns
 unfolding has
-returns c = search needs
+returns c = refl
 
 pub test-bit-spec : {M : Type 1} → statement M
 test-bit-spec = tie.close (tie.spec shr-result returns)
