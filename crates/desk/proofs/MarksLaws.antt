@@ -1,22 +1,20 @@
 -- Laws of out marks for C: their bytes handed back as marks in, and the answers of the module and of the set.
 use mathlib.Core.Path.{_≡_, refl, sym, ap, _∙_}
-use mathlib.Core.List.{List, map, flatten}
-use Prim.Native.Nat.{ℕ, _^_, _<_}
-use native.Mathlib.Omega.{arith}
-use lib.ListN.{length, getD}
+use mathlib.Core.List.{List}
+use Prim.Native.Nat.{ℕ}
+use lib.ListN.{length}
 use borrow.Author.Tests.{eq-eqb}
-use Rattle.bits.proofs.ListLaws.{listed-length, listed-is}
+use Rattle.bits.proofs.ListLaws.{listed-length}
 use Rattle.marks.specs.Marks.{marked, markCount, marksOf}
 use Rattle.marks.proofs.WordLaws.{marks-length, marks-small}
 use Rattle.pack.specs.declared.check.Checked.{Checked}
 use Rattle.pack.specs.declared.check.Checked.the-variants.{Refused, Count}
 use Rattle.pack.specs.Answers.{checkedNumber, checkedValue}
-use Rattle.pack.specs.Bytes.{wordIn, part, wordsIn, marksIn}
+use Rattle.pack.specs.Bytes.{wordIn, part, wordsIn, wordsBytes, marksIn}
 use Rattle.pack.specs.Question.{counted, Taken}
 use Rattle.pack.specs.World.{Follows}
 use Rattle.pack.specs.Record.{linesOf}
-use Rattle.writer.specs.Sheet.{wordBytes}
-use Rattle.writer.proofs.BytesLaws.{parts-length, parts-all, word-length, word-in}
+use Rattle.pack.proofs.BytesLaws.{words-back}
 use Rattle.reasons.specs.declared.set.SetAnswer.{SetAnswer}
 use Rattle.reasons.specs.declared.set.SetAnswer.the-variants as sets
 use Rattle.reasons.specs.Reach.{moduleOf}
@@ -26,16 +24,7 @@ use Rattle.reasons.specs.Set.{setNumber, setValue, setMarks, setOut, askSet, wr
 use Rattle.reasons.proofs.ModuleLaws.{MarksModule, module-written, module-right, module-length}
 use Rattle.reasons.proofs.SetLaws.{set-length}
 use Rattle.reasons.proofs.SetRight.{set-found, set-printed}
-use Rattle.desk.specs.Desk.{deskCode, checkedCode, setCodeOf, wordsBytes, askModuleC, moduleCode, moduleBytes, setCode, setBytes}
-
--- THE BYTES OF 16 WORDS, handed back as marks in, ARE THOSE WORDS
-bytes-back : (ws : List ℕ) → length ws ≡ 16 → ((j : ℕ) → j < 16 → getD ws j 0 < 2 ^ 64) → marksIn (wordsBytes ws) ≡ ws
-unfolding wordsIn wordsBytes
-bytes-back ws sixteen small =
-    let bytes = flatten (map wordBytes ws) in
-    let at : ℕ → ℕ = λ j. wordIn (part bytes j) in
-    rw (eq-eqb (length bytes) 128 (parts-length wordBytes word-length ws ∙ omega arith))
-    (listed-is at 0 16 ws sixteen (λ j l. ap wordIn (parts-all wordBytes word-length ws j 0 (omega arith)) ∙ word-in (getD ws j 0) (small j l)))
+use Rattle.desk.specs.Desk.{deskCode, checkedCode, setCodeOf, askModuleC, moduleCode, moduleBytes, setCode, setBytes}
 
 -- bytes of the right length are 16 words
 read-length : (out : List ℕ) → length out ≡ 128 → length (marksIn out) ≡ 16
@@ -80,7 +69,7 @@ module _ (n m : ℕ) (s marks : List ℕ) (a : ℕ) (out : List ℕ) where
   module-call-right {k} e =
       let M = moduleOf (linesOf s) (counted s (marksIn marks)) n m a in
       let right = module-right n m s (marksIn marks) a (marksIn out) e in
-      rw (e, bytes-back (marksOf M) (marks-length M) (marks-small M)) (rw (module-written n m s (marksIn marks) a (marksIn out) e) at right)
+      rw (e, words-back (marksOf M) (marks-length M) (marks-small M)) (rw (module-written n m s (marksIn marks) a (marksIn out) e) at right)
 
 module _ (n m : ℕ) (s marks : List ℕ) (a b : ℕ) (out : List ℕ) where
   -- THE PRINTED SET FROM ITS WORDS
@@ -105,6 +94,6 @@ module _ (n m : ℕ) (s marks : List ℕ) (a b : ℕ) (out : List ℕ) where
   set-call-right t l f =
       let P = printed (linesOf s) (counted s (marksIn marks)) n m a b in
       let found = set-found n m s (marksIn marks) a b t (marksIn out) (read-length out l) f in
-      let back = bytes-back (marksOf P) (marks-length P) (marks-small P) in
+      let back = words-back (marksOf P) (marks-length P) (marks-small P) in
       rw (found .1, found .0, back)
       (rw (found .0) at (set-printed n m s (marksIn marks) a b t (marksIn out) (read-length out l) f), refl)

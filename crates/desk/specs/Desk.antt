@@ -1,9 +1,9 @@
 -- What the calls for C return: the table's number in the low byte (0: none), and the value above it.
-use mathlib.Core.List.{List, map, flatten}
+use mathlib.Core.List.{List}
 use Prim.Native.Nat.{ℕ, _+_, _*_}
 use Rattle.pack.specs.declared.check.Checked.{Checked}
 use Rattle.pack.specs.Answers.{checkedNumber, checkedValue}
-use Rattle.pack.specs.Bytes.{marksIn}
+use Rattle.pack.specs.Bytes.{marksIn, wordsBytes}
 use Rattle.pack.specs.Pack.{checkPack}
 use Rattle.pack.specs.Question.{checkQuestion}
 use Rattle.engine.specs.declared.verdict.VerdictAnswer.{VerdictAnswer}
@@ -11,7 +11,7 @@ use Rattle.engine.specs.Answers.{verdictNumber, verdictValue}
 use Rattle.engine.specs.Verdict.{askVerdict}
 use Rattle.writer.specs.declared.write.SheetAnswer.{SheetAnswer}
 use Rattle.writer.specs.declared.write.SheetAnswer.the-variants as answer
-use Rattle.writer.specs.Sheet.{wordBytes, askSheet, sheetNumber, sheetValue}
+use Rattle.writer.specs.Sheet.{askSheet, sheetNumber, sheetValue}
 use Rattle.reasons.specs.declared.set.SetAnswer.{SetAnswer}
 use Rattle.reasons.specs.Module.{moduleMarks, moduleOut, askModule}
 use Rattle.reasons.specs.Set.{setNumber, setValue, setMarks, setOut, askSet}
@@ -52,10 +52,6 @@ verdictCode n m s marks a b = verdictCodeOf (askVerdict n m s (marksIn marks) a 
 
 unfoldable pub sheetCode : ℕ → ℕ → List ℕ → List ℕ → ℕ → ℕ → List ℕ → ℕ
 sheetCode n m s marks a b sheet = sheetCodeOf (askSheet n m s (marksIn marks) a b sheet)
-
--- out marks as bytes, each word's low byte first
-unfoldable pub wordsBytes : List ℕ → List ℕ
-wordsBytes ws = flatten (map wordBytes ws)
 
 -- the out marks are judged like the marks in: bytes of another length are no words
 abbrev pub askModuleC : ℕ → ℕ → List ℕ → List ℕ → ℕ → List ℕ → Checked

@@ -3,34 +3,20 @@ ghost use mathlib.Core.Path.{_≡_};
 ghost use mathlib.Core.Bool.{not, _||_};
 ghost use lib.Dec.{eqb};
 ghost use lib.ListN.{length};
+ghost use Rattle.pack.specs.Bytes.{wordsBytes};
 ghost use Rattle.reasons.specs.Module.{moduleOut};
 ghost use Rattle.reasons.specs.Set.{setOut};
-ghost use Rattle.desk.specs.Desk.{checkedCode, setCodeOf, wordsBytes, moduleCode, moduleBytes, setCode, setBytes};
+ghost use Rattle.desk.specs.Desk.{checkedCode, setCodeOf, moduleCode, moduleBytes, setCode, setBytes};
 use crate::code::desk_code;
 use crate::code::unread_code;
 use pack::bytes::read_marks;
+use pack::bytes::write_marks;
 use pack::check::Checked;
 use pack::check::refusal_number;
 use pack::check::refusal_place;
 use reasons::module::module_for;
 use reasons::set::SetAnswer;
 use reasons::set::printed_set;
-use writer::write::write_word;
-
-// The 16 words into the 128 bytes of out marks, each into the part that starts at 8 times its index.
-fn write_marks(words: &[u64; 16], out: &mut [u8])
-    requires { ⌜ (length (now words) ≡ 16) × (length (now out) ≡ 128) ⌝ }
-    ensures { λ _. ⌜ now (out .exit) ≡ wordsBytes (now (words .entry)) ⌝ }
-{
-    let mut j = 0;
-    while j < 16 {
-        let at = j * 8;
-        let end = at + 8;
-        let w = words[j];
-        write_word(&mut out[at..end], w);
-        j += 1;
-    }
-}
 
 // Are the marks in or the out marks not 128 bytes?
 fn unread(marks: usize, out: usize) -> bool

@@ -1,5 +1,6 @@
 -- The laws, for the callers' proofs: what the bytes say, what the checks show, what the rules derive.
 pub mod Parts
+pub mod BytesLaws
 pub mod RecordLaws
 pub mod PackLaws
 pub mod QuestionLaws

@@ -1,8 +1,8 @@
-// Words of 8 bytes, the low byte first.
+// Words in 8 bytes, the low byte first: read and written.
 ghost use mathlib.Core.Path.{_≡_};
 ghost use Prim.Native.Nat.{_+_, _*_, _≤_};
 ghost use lib.ListN.{length};
-ghost use Rattle.pack.specs.Bytes.{wordIn, wordsIn};
+ghost use Rattle.pack.specs.Bytes.{wordIn, wordBytes, wordsIn, wordsBytes};
 
 // A number of two halves, the low one first.
 fn pair(lo: u8, hi: u8) -> u16
@@ -42,6 +42,21 @@ pub fn read_word(part: &[u8]) -> u64
     oct(quad(a, b), quad(c, d))
 }
 
+// The 8 bytes of a word into its part, the low one first.
+pub fn write_word(part: &mut [u8], w: u64)
+    requires { ⌜ length (now part) ≡ 8 ⌝ }
+    ensures { λ _. ⌜ now (part .exit) ≡ wordBytes w ⌝ }
+{
+    part[0] = (w % 256) as u8;
+    part[1] = (w / 256 % 256) as u8;
+    part[2] = (w / 65536 % 256) as u8;
+    part[3] = (w / 16777216 % 256) as u8;
+    part[4] = (w / 4294967296 % 256) as u8;
+    part[5] = (w / 1099511627776 % 256) as u8;
+    part[6] = (w / 281474976710656 % 256) as u8;
+    part[7] = (w / 72057594037927936 % 256) as u8;
+}
+
 // The 16 words of 128 bytes: marks as the desk hands them over.
 pub fn read_marks(s: &[u8]) -> [u64; 16]
     requires { ⌜ length (now s) ≡ 128 ⌝ }
@@ -57,4 +72,19 @@ pub fn read_marks(s: &[u8]) -> [u64; 16]
         j += 1;
     }
     words
+}
+
+// The 16 words into the 128 bytes of out marks, each into the part that starts at 8 times its index.
+pub fn write_marks(words: &[u64; 16], out: &mut [u8])
+    requires { ⌜ (length (now words) ≡ 16) × (length (now out) ≡ 128) ⌝ }
+    ensures { λ _. ⌜ now (out .exit) ≡ wordsBytes (now (words .entry)) ⌝ }
+{
+    let mut j = 0;
+    while j < 16 {
+        let at = j * 8;
+        let end = at + 8;
+        let w = words[j];
+        write_word(&mut out[at..end], w);
+        j += 1;
+    }
 }

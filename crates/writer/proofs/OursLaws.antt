@@ -24,6 +24,7 @@ use Rattle.pack.specs.Bytes.{part}
 use Rattle.pack.specs.Question.{counted, checkQuestion}
 use Rattle.pack.specs.Record.{linesOf}
 use Rattle.pack.specs.World.{World, Is, Obeys, Follows}
+use Rattle.pack.proofs.Parts.{parts-length, parts-all}
 use Rattle.pack.proofs.RecordLaws.{lines-length}
 use Rattle.pack.proofs.QuestionLaws.{asked, asked-valid}
 use Rattle.yes.specs.declared.check.YesAnswer.the-variants as yes
@@ -43,7 +44,7 @@ use Rattle.engine.proofs.VerdictLaws.{too-long-never}
 use Rattle.writer.specs.declared.write.SheetAnswer.{SheetAnswer}
 use Rattle.writer.specs.declared.write.SheetAnswer.the-variants as sheets
 use Rattle.writer.specs.Sheet.{yesBytes, noBytes, ourSheet, sheetAnswer, sheetAfter, askSheet, sheetOut, writtenSheet}
-use Rattle.writer.proofs.BytesLaws.{parts-length, parts-all, zeros-in, step-in, steps-of, rows-of, yes-length, no-length}
+use Rattle.writer.proofs.SheetLaws.{zeros-in, step-in, steps-of, rows-of, yes-length, no-length}
 
 -- the world that the bytes of our rows describe is the one of our rows
 module _ (n m : ℕ) (s ws : List ℕ) (few : n ≤ 64) where

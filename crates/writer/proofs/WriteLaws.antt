@@ -20,6 +20,7 @@ use Rattle.pack.specs.declared.line.Fact.{Fact}
 use Rattle.pack.specs.declared.line.Fact.the-variants.{In, Link}
 use Rattle.pack.specs.declared.line.Line.{Line}
 use Rattle.pack.specs.declared.line.Step.{Step}
+use Rattle.pack.specs.Bytes.{wordsBytes}
 use Rattle.pack.specs.Question.{counted, checkQuestion}
 use Rattle.pack.specs.Record.{linesOf}
 use Rattle.pack.specs.Rules.{free}
@@ -39,9 +40,9 @@ use Rattle.engine.specs.Inner.{Ran}
 use Rattle.engine.proofs.VerdictLaws.{too-long-never, end-held, end-not}
 use Rattle.writer.specs.declared.write.SheetAnswer.{SheetAnswer}
 use Rattle.writer.specs.declared.write.SheetAnswer.the-variants as answer
-use Rattle.writer.specs.Sheet.{wordBytes, yesBytes, noBytes, ourSheet, sheetAnswer, sheetOut, askSheet, writtenSheet}
+use Rattle.writer.specs.Sheet.{yesBytes, noBytes, ourSheet, sheetAnswer, sheetOut, askSheet, writtenSheet}
 use Rattle.writer.specs.Inner.{rowIn, rowsBytes}
-use Rattle.writer.proofs.BytesLaws.{with-steps, yes-length, no-length}
+use Rattle.writer.proofs.SheetLaws.{with-steps, yes-length, no-length}
 
 -- a row past the concept rows is of one of the roles
 pub div-less : (i n : ℕ) → 1 ≤ n → i < n * 9 → n ≤ i → (i - n) / n < 8
@@ -194,7 +195,7 @@ module _ (n m : ℕ) (s ws : List ℕ) (a b : ℕ) {c : ℕ} (taken : checkQuest
       go (no l) =
           let room : n * (1 + m) * 8 ≤ length sheet = omega arith in
           let d : r ≡ answer.Not (n * (1 + m)) = e ∙ rw (le-leb (n * (1 + m) * 8) (length sheet) room) in
-          let same : flatten (map wordBytes (listed (n * (1 + m)) 0 (rowIn n cs lks))) ≡ noBytes n m s ws =
-          ap (λ (l : List ℕ). flatten (map wordBytes l)) (our-rows n m (linesOf s) (counted s ws) blank cs lks blank′ k (q .pack .n-some) (q .pack .n-most) (end .1) (words room) (q .pack .m-most)) in
+          let same : wordsBytes (listed (n * (1 + m)) 0 (rowIn n cs lks)) ≡ noBytes n m s ws =
+          ap wordsBytes (our-rows n m (linesOf s) (counted s ws) blank cs lks blank′ k (q .pack .n-some) (q .pack .n-most) (end .1) (words room) (q .pack .m-most)) in
           let g : after ≡ noBytes n m s ws ++ drop (n * (1 + m) * 8) sheet = f ∙ rw (d, same, ours-long) in
           rw (d, g) (long-enough n m s ws a b taken sheet false (end .0) (noBytes n m s ws) (n * (1 + m)) refl ours-long room)

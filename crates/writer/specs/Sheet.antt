@@ -1,13 +1,13 @@
 -- What the sheet writer answers, and what the lent sheet holds afterwards.
 use mathlib.Core.Bool.{Bool, cond}
 use mathlib.Core.List.{List, _++_, map, flatten}
-use Prim.Native.Nat.{ℕ, _*_, _/_, _%_, _^_}
+use Prim.Native.Nat.{ℕ, _*_}
 use lib.Dec.{leb}
 use lib.ListN.{length, drop}
-use Rattle.bits.specs.Lists.{listed}
 use Rattle.pack.specs.declared.check.Checked.{Checked}
 use Rattle.pack.specs.declared.check.Checked.the-variants as checked
 use Rattle.pack.specs.Answers.{refusalNumber, refusalPlace}
+use Rattle.pack.specs.Bytes.{wordsBytes}
 use Rattle.pack.specs.Question.{counted, checkQuestion}
 use Rattle.pack.specs.Record.{linesOf}
 use Rattle.passes.specs.Ours.{ourSteps, ourRows}
@@ -16,16 +16,12 @@ use Rattle.engine.specs.Verdict.{tooLong, follows}
 use Rattle.writer.specs.declared.write.SheetAnswer.{SheetAnswer}
 use Rattle.writer.specs.declared.write.SheetAnswer.the-variants as answer
 
--- a word's 8 bytes, the low one first
-unfoldable pub wordBytes : ℕ → List ℕ
-wordBytes w = listed 8 0 (λ j. w / 256 ^ j % 256)
-
 -- the bytes of our yes sheet and of our no sheet
 unfoldable pub yesBytes : ℕ → ℕ → List ℕ → List ℕ → ℕ → ℕ → List ℕ
 yesBytes n m s ws a b = flatten (map stepBytes (ourSteps (linesOf s) (counted s ws) n m a b))
 
 unfoldable pub noBytes : ℕ → ℕ → List ℕ → List ℕ → List ℕ
-noBytes n m s ws = flatten (map wordBytes (ourRows (linesOf s) (counted s ws) n m))
+noBytes n m s ws = wordsBytes (ourRows (linesOf s) (counted s ws) n m)
 
 -- our sheet, of the sort that fits the verdict
 abbrev pub ourSheet : ℕ → ℕ → List ℕ → List ℕ → ℕ → ℕ → List ℕ

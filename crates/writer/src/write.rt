@@ -9,9 +9,10 @@ ghost use Rattle.pack.specs.Question.{counted, Taken};
 ghost use Rattle.pack.specs.Record.{linesOf};
 ghost use Rattle.passes.specs.Ours.{ourSteps};
 ghost use Rattle.engine.specs.Verdict.{follows};
-ghost use Rattle.writer.specs.Sheet.{wordBytes, sheetAnswer, sheetOut, askSheet, writtenSheet};
+ghost use Rattle.writer.specs.Sheet.{sheetAnswer, sheetOut, askSheet, writtenSheet};
 ghost use Rattle.writer.specs.Inner.{rowsBytes, rowIn};
 use engine::verdict::settle;
+use pack::bytes::write_word;
 use pack::check::Checked;
 use pack::check::Refusal;
 use pack::question::check_question;
@@ -24,21 +25,6 @@ pub enum SheetAnswer {
     NoRoom(u32),
     Follows(u32),
     Not(u32),
-}
-
-// The 8 bytes of a word into its part, the low one first.
-pub fn write_word(part: &mut [u8], w: u64)
-    requires { ⌜ length (now part) ≡ 8 ⌝ }
-    ensures { λ _. ⌜ now (part .exit) ≡ wordBytes w ⌝ }
-{
-    part[0] = (w % 256) as u8;
-    part[1] = (w / 256 % 256) as u8;
-    part[2] = (w / 65536 % 256) as u8;
-    part[3] = (w / 16777216 % 256) as u8;
-    part[4] = (w / 4294967296 % 256) as u8;
-    part[5] = (w / 1099511627776 % 256) as u8;
-    part[6] = (w / 281474976710656 % 256) as u8;
-    part[7] = (w / 72057594037927936 % 256) as u8;
 }
 
 // A word, and that it is one: what stands behind a reference to an array is not known to be.

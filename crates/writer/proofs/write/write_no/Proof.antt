@@ -5,10 +5,10 @@ use native.Mathlib.Nat.{mul-comm, mul-le-mul-left}
 use native.Mathlib.Omega.{arith}
 use borrow.Author.Needs.{needs}
 use borrow.Author.Tests.{le-leb, lt-leb}
+use Rattle.pack.proofs.BytesLaws.{words-length}
 use Rattle.no.proofs.NoLaws.{rows-few}
 use Rattle.writer.specs.declared.write.SheetAnswer.the-variants.{NoRoom}
 use Rattle.writer.specs.Inner.{rowIn, rowsBytes}
-use Rattle.writer.proofs.BytesLaws.{words-length}
 use Rattle.writer.proofs.write.write_no.Statement.{statement}
 use Rattle.writer.proofs.write.write_no.Tie as tie
 

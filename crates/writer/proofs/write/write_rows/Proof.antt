@@ -4,8 +4,8 @@ use Prim.Native.Nat.{ℕ, _-_, _≤_, _<_, _^_}
 use native.Mathlib.Omega.{arith}
 use lib.ListN.{length, length-take, length-drop}
 use borrow.Author.Count.{below-more}
+use Rattle.pack.proofs.BytesLaws.{Filled, filled-start, filled-length, filled-more}
 use Rattle.writer.specs.Inner.{rowIn, rowsBytes}
-use Rattle.writer.proofs.BytesLaws.{Filled, filled-start, filled-length, filled-more}
 use Rattle.writer.proofs.write.write_rows.Statement.{statement}
 use Rattle.writer.proofs.write.write_rows.Tie as tie
 

@@ -5,10 +5,9 @@ use Prim.Native.Nat.{_-_, _≤_}
 use native.Mathlib.Omega.{arith}
 use lib.ListN.{length, getD, length-take, length-drop, drop-of-length-le}
 use Rattle.bits.proofs.ListLaws.{listed-is}
-use Rattle.writer.proofs.BytesLaws.{Filled, filled-start, filled-length, filled-more}
-use Rattle.desk.specs.Desk.{wordsBytes}
-use Rattle.desk.proofs.reason.write_marks.Statement.{statement}
-use Rattle.desk.proofs.reason.write_marks.Tie as tie
+use Rattle.pack.proofs.BytesLaws.{Filled, filled-start, filled-length, filled-more}
+use Rattle.pack.proofs.bytes.write_marks.Statement.{statement}
+use Rattle.pack.proofs.bytes.write_marks.Tie as tie
 
 abbrev Inv-loop : tie.InvT-loop
 Inv-loop words out₀ j₀ out j = (j ≤ 16) × (out ≡ Filled (λ i. getD words i 0) out₀ j)
@@ -63,7 +62,6 @@ same-length : tie.Need-same-length Inv-loop μ-loop
 same-length c = ap length (c .before .loop .inv .1) ∙ filled-length _ _ _ (omega (arith, c .before .before .before .pre .1, c .before .loop .inv .0))
 
 returns : tie.Need-returns Inv-loop μ-loop
-unfolding wordsBytes
 returns c =
     let l = c .before .loop in
     let a = c .before .before .before .args in

@@ -8,9 +8,9 @@ use lib.ListN.{length-set, drop-of-length-le}
 use lib.Seq.{sets-eq}
 use borrow.Author.Needs.{needs}
 use Rattle.bits.specs.Lists.{listed}
-use Rattle.writer.specs.Sheet.{wordBytes}
-use Rattle.writer.proofs.write.write_word.Statement.{statement}
-use Rattle.writer.proofs.write.write_word.Tie as tie
+use Rattle.pack.specs.Bytes.{wordBytes}
+use Rattle.pack.proofs.bytes.write_word.Statement.{statement}
+use Rattle.pack.proofs.bytes.write_word.Tie as tie
 
 -- the bytes as the code has them
 bytes : ℕ → List ℕ
