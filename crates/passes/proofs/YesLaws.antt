@@ -8,7 +8,7 @@ use native.Mathlib.Omega.{arith}
 use lib.Dec.{eqb, ltb}
 use lib.ListN.{length, getD, take, length-reverse, List·getD-append}
 use lib.Seq.{take-append-le, take-at, getD-at}
-use borrow.Author.Tests.{lt-ltb, eq-eqb}
+use borrow.Author.Tests.{lt-ltb}
 use Rattle.bits.proofs.Truth.{and-true, true-and, or-elim, or-left, or-right, never}
 use Rattle.pack.specs.declared.line.Line.{Line}
 use Rattle.pack.specs.declared.line.Fact.{Fact}
@@ -16,9 +16,10 @@ use Rattle.pack.specs.declared.line.Fact.the-variants.{In}
 use Rattle.pack.specs.declared.line.Step.{Step}
 use Rattle.pack.specs.World.{lineAt}
 use Rattle.pack.specs.Record.{Valid}
-use Rattle.pack.specs.Rules.{premiseOneOf, premiseTwoOf, conclusionOf, usesY, usesZ, Fits, Usable, free, sameFact}
+use Rattle.pack.specs.Rules.{premiseOneOf, premiseTwoOf, conclusionOf, usable, free, sameFact}
+use Rattle.pack.proofs.RuleLaws.{Usable, is-usable}
 use Rattle.pack.proofs.Soundness.{free-self}
-use Rattle.yes.specs.YesSheet.{concluded, known, numberFits, usable, goodOver}
+use Rattle.yes.specs.YesSheet.{concluded, known, goodOver}
 use Rattle.passes.specs.Saturation.{said, holds}
 use Rattle.passes.specs.Passes.{el, notFree, finished, table, verdict}
 use Rattle.passes.specs.Ours.{ourSteps}
@@ -37,22 +38,6 @@ concluded-said ls (s ∷ ss) f = ap (λ (t : Bool). sameFact (conclusionOf ls s)
 known-holds : (ls : List Line) (n : ℕ) (st : List Step) (f : Fact) → known ls n (reverse st) f ≡ holds (el ls) (free n) st f
 unfolding known holds
 known-holds ls n st f = ap (λ (t : Bool). free n f || t) (concluded-said ls (reverse st) f ∙ said-reverse ls st f)
-
-number-fits : (t : Bool) (n y : ℕ) → Fits t n y → numberFits t n y ≡ true
-number-fits true n y h = lt-ltb y n h
-number-fits false n y h = eq-eqb y 0 h
-
-usable-true : (ls : List Line) (S : ℕ → Bool) (n : ℕ) (s : Step) → Usable ls S n s → usable ls S n s ≡ true
-unfolding usable
-usable-true ls S n s u =
-    let l = lineAt ls (s .place) in
-    rw (
-      lt-ltb (s .place) (length ls) (u .there),
-      u .marked,
-      lt-ltb (s .x) n (u .fitsX),
-      number-fits (usesY l) n (s .y) (u .fitsY),
-      number-fits (usesZ l) n (s .z) (u .fitsZ),
-    )
 
 -- step i of a list in pass order, and the steps before it
 module _ {A : Type 0} where
@@ -80,7 +65,7 @@ module _ (ls : List Line) (S : ℕ → Bool) (n : ℕ) where
       let s = getD (reverse st) i d in
       let a : Added (el ls) (free n) (Usable ls S n) (r .0) s = built-later (el ls) (free n) (Usable ls S n) (r .2) b .0 in (
         a .taken,
-        rw (r .1) (true-and (usable ls S n s) (known ls n (reverse (r .0)) (premiseOneOf ls s) && known ls n (reverse (r .0)) (premiseTwoOf ls s)) (usable-true ls S n s (a .taken))
+        rw (r .1) (true-and (usable ls S n s) (known ls n (reverse (r .0)) (premiseOneOf ls s) && known ls n (reverse (r .0)) (premiseTwoOf ls s)) (is-usable (a .taken))
             (true-and (known ls n (reverse (r .0)) (premiseOneOf ls s)) (known ls n (reverse (r .0)) (premiseTwoOf ls s))
             (known-holds ls n (r .0) (premiseOneOf ls s) ∙ a .first) (known-holds ls n (r .0) (premiseTwoOf ls s) ∙ a .second))),
       )

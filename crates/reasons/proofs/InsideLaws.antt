@@ -15,6 +15,7 @@ use Rattle.pack.specs.declared.line.Fact.the-variants.{In, Link}
 use Rattle.pack.specs.World.{Follows, lineAt}
 use Rattle.pack.specs.Record.{Valid}
 use Rattle.pack.specs.Rules.{premiseOne, premiseTwo, conclusion, premiseOneOf, Derived, given, by, free}
+use Rattle.pack.proofs.RuleLaws.{usable-is, usable-more}
 use Rattle.pack.proofs.Soundness.{derived-follows}
 use Rattle.passes.specs.Passes.{verdict}
 use Rattle.passes.proofs.PassLaws.{table-holds, decides}
@@ -90,8 +91,8 @@ module _ (ls : List Line) (S : ℕ → Bool) (R : Name → Bool) (n : ℕ) (goes
       let k₁ : R (concept (about (premiseOneOf ls s))) ≡ true = subst (λ (c : ℕ). R (concept c) ≡ true) (sym (p .0)) kx in
       let r₁ = derived-inside d₁ k₁ in
       let t = step-said R l (s .x) (s .y) (s .z) kx (r₁ .1) (λ q. derived-inside d₂ q .1) in (
-        by s (record { there = u .there; marked = rw (u .marked, t .0); fitsX = u .fitsX; fitsY = u .fitsY; fitsZ = u .fitsZ }) (r₁ .0) (derived-inside d₂ (t .1) .0) e,
-        subst (Said R) e (t .2 (goes (s .place) (u .there) (u .marked) (t .0))),
+        by s (usable-more ls S (moduleIn ls S R) n s (λ m. rw (m, t .0)) u) (r₁ .0) (derived-inside d₂ (t .1) .0) e,
+        subst (Said R) e (t .2 (goes (s .place) (usable-is u .there) (usable-is u .marked) (t .0))),
       )
 
 module _ (ls : List Line) (S : ℕ → Bool) (R : Name → Bool) where

@@ -6,7 +6,7 @@ use mathlib.Core.List.{List}
 use Prim.Native.Nat.{ℕ, _/_, _≤_, _<_}
 use lib.Dec.{ltb}
 use lib.ListN.{length}
-use borrow.Author.Tests.{ltb-true, eqb-true}
+use borrow.Author.Tests.{ltb-true}
 use Rattle.bits.proofs.Truth.{and-true}
 use Rattle.bits.proofs.Promises.{no-second}
 use Rattle.pack.specs.declared.line.Line.{Line}
@@ -15,12 +15,13 @@ use Rattle.pack.specs.declared.line.Step.{Step}
 use Rattle.pack.specs.World.{lineAt}
 use Rattle.pack.specs.Record.{linesOf, lineAtPlace, Valid}
 use Rattle.pack.specs.Question.{counted}
-use Rattle.pack.specs.Rules.{premiseOneOf, premiseTwoOf, conclusion, conclusionOf, usesY, usesZ, Fits, Usable}
+use Rattle.pack.specs.Rules.{premiseOneOf, premiseTwoOf, conclusion, conclusionOf, numbersFit, usable}
 use Rattle.pack.proofs.RecordLaws.{lines-length, lines-at}
+use Rattle.pack.proofs.RuleLaws.{usable-is}
 use Rattle.pack.proofs.Ranges.{conclusion-range}
 use Rattle.tables.specs.Tables.{inTable, addedConcepts, addedLinks}
 use Rattle.tables.proofs.TableLaws.{in-table}
-use Rattle.yes.specs.YesSheet.{stepIn, numberFits, usable, goodOver, numbersFit, premisesKnown}
+use Rattle.yes.specs.YesSheet.{stepIn, goodOver, premisesKnown}
 
 -- THE TESTS OF THE CODE: the place counts, and the numbers and the premises are right for the line l there
 module _ (pack p : List ℕ) {s : Step} {l : Line} (e : s ≡ stepIn p) (f : l ≡ lineAtPlace pack (s .place)) where
@@ -50,39 +51,21 @@ module _ (ls : List Line) (S : ℕ → Bool) (n : ℕ) where
 
   -- A STEP THAT IS GOOD is usable, and its premises are known
   pub record Good (K : Fact → Bool) (s : Step) : Type 0 where
-    pub may : Usable ls S n s
+    pub may : usable ls S n s ≡ true
     pub one : K (premiseOneOf ls s) ≡ true
     pub two : K (premiseTwoOf ls s) ≡ true
 
-  fits : (t : Bool) (y : ℕ) → numberFits t n y ≡ true → Fits t n y
-  fits true y h = ltb-true y n h
-  fits false y h = eqb-true y 0 h
-
   pub good : {K : Fact → Bool} {s : Step} → goodOver ls S n K s ≡ true → Good K s
-  unfolding goodOver usable
+  unfolding goodOver
   good {K} {s} h =
-      let l = lineAt ls (s .place) in
-      let g = and-true (usable ls S n s) (premisesKnown l K s) h in
-      let u = and-true (ltb (s .place) (length ls) && S (s .place)) (numbersFit l n s) (g .0) in
-      let p = and-true (ltb (s .place) (length ls)) (S (s .place)) (u .0) in
-      let x = and-true (ltb (s .x) n) (numberFits (usesY l) n (s .y) && numberFits (usesZ l) n (s .z)) (u .1) in
-      let y = and-true (numberFits (usesY l) n (s .y)) (numberFits (usesZ l) n (s .z)) (x .1) in
+      let g = and-true (usable ls S n s) (premisesKnown (lineAt ls (s .place)) K s) h in
       let k = and-true (K (premiseOneOf ls s)) (K (premiseTwoOf ls s)) (g .1) in
-      record {
-        may = record {
-          there = ltb-true _ _ (p .0);
-          marked = p .1;
-          fitsX = ltb-true _ _ (x .0);
-          fitsY = fits (usesY l) (s .y) (y .0);
-          fitsZ = fits (usesZ l) (s .z) (y .1);
-        };
-        one = k .0;
-        two = k .1;
-      }
+      record { may = g .0; one = k .0; two = k .1 }
 
 -- THE CONCLUSION OF A USABLE STEP has a place in the tables
-pub conclusion-in-table : (n m : ℕ) → n ≤ 64 → m ≤ 8 → (ls : List Line) (S : ℕ → Bool) (s : Step) → Valid n m ls → Usable ls S n s → inTable (conclusionOf ls s) ≡ true
-conclusion-in-table n m few roles ls S s v u =
+pub conclusion-in-table : (n m : ℕ) → n ≤ 64 → m ≤ 8 → (ls : List Line) (S : ℕ → Bool) (s : Step) → Valid n m ls → usable ls S n s ≡ true → inTable (conclusionOf ls s) ≡ true
+conclusion-in-table n m few roles ls S s v e =
+    let u = usable-is e in
     in-table n m few roles (conclusionOf ls s)
     (conclusion-range n m (lineAt ls (s .place)) (v (s .place) (u .there)) (s .x) (s .y) (s .z) (u .fitsX) (u .fitsY) (u .fitsZ))
 

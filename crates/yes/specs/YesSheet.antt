@@ -1,5 +1,5 @@
 -- A yes sheet: steps of 8 bytes, each good by the steps before it.
-use mathlib.Core.Bool.{Bool, true, false, cond, not, _&&_, _||_}
+use mathlib.Core.Bool.{Bool, false, cond, not, _&&_, _||_}
 use mathlib.Core.List.{List, [], _∷_}
 use Prim.Native.Nat.{ℕ, _/_, _%_}
 use lib.Dec.{eqb, ltb, leb}
@@ -13,7 +13,7 @@ use Rattle.pack.specs.declared.line.Fact.the-variants.{In}
 use Rattle.pack.specs.declared.line.Line.{Line}
 use Rattle.pack.specs.declared.line.Step.{Step}
 use Rattle.pack.specs.World.{lineAt}
-use Rattle.pack.specs.Rules.{premiseOne, premiseTwo, conclusionOf, usesY, usesZ, free, sameFact}
+use Rattle.pack.specs.Rules.{premiseOne, premiseTwo, conclusionOf, usable, free, sameFact}
 use Rattle.pack.specs.Bytes.{littleEndian, part}
 use Rattle.pack.specs.Record.{linesOf}
 use Rattle.pack.specs.Question.{counted, checkQuestion}
@@ -39,19 +39,6 @@ concluded ls (s ∷ ss) f = sameFact (conclusionOf ls s) f || concluded ls ss f
 -- f is free or concluded
 unfoldable pub known : List Line → ℕ → List Step → Fact → Bool
 known ls n ss f = free n f || concluded ls ss f
-
--- a used number is below n, an unused one is zero
-abbrev pub numberFits : Bool → ℕ → ℕ → Bool
-numberFits true n y = ltb y n
-numberFits false n y = eqb y 0
-
--- the numbers of a step fit a line
-abbrev pub numbersFit : Line → ℕ → Step → Bool
-numbersFit l n s = ltb (s .x) n && (numberFits (usesY l) n (s .y) && numberFits (usesZ l) n (s .z))
-
--- the place is one of S, and the numbers fit the line there
-unfoldable pub usable : List Line → (ℕ → Bool) → ℕ → Step → Bool
-usable ls S n s = (ltb (s .place) (length ls) && S (s .place)) && numbersFit (lineAt ls (s .place)) n s
 
 -- the premises of a line at a step are known
 abbrev pub premisesKnown : Line → (Fact → Bool) → Step → Bool

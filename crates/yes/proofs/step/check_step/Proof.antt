@@ -9,9 +9,9 @@ use borrow.Author.Tests.{ltb-true}
 use Rattle.bits.proofs.Truth.{and-true}
 use Rattle.pack.specs.Record.{linesOf}
 use Rattle.pack.specs.Question.{counted}
-use Rattle.pack.specs.Rules.{conclusion, conclusionOf}
+use Rattle.pack.specs.Rules.{conclusion, conclusionOf, numbersFit}
 use Rattle.tables.specs.Tables.{held}
-use Rattle.yes.specs.YesSheet.{stepIn, zerosIn, goodOver, numbersFit, premisesKnown}
+use Rattle.yes.specs.YesSheet.{stepIn, zerosIn, goodOver, premisesKnown}
 use Rattle.yes.proofs.StepLaws.{good-parts, concludes}
 use Rattle.yes.proofs.step.check_step.Statement.{statement}
 use Rattle.yes.proofs.step.check_step.Tie as tie
