@@ -14,7 +14,6 @@ use Rattle.pack.specs.declared.line.Line.{Line}
 use Rattle.pack.specs.declared.line.Fact.{Fact}
 use Rattle.pack.specs.declared.line.Fact.the-variants.{In}
 use Rattle.pack.specs.declared.line.Step.{Step}
-use Rattle.pack.specs.World.{lineAt}
 use Rattle.pack.specs.Record.{Valid}
 use Rattle.pack.specs.Rules.{premiseOneOf, premiseTwoOf, conclusionOf, usable, free, sameFact}
 use Rattle.pack.proofs.RuleLaws.{Usable, is-usable}
