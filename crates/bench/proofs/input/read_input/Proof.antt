@@ -11,21 +11,6 @@ returns c = too-long _ (c .if1 .taken)
 returns-2 : tie.Need-returns-2
 returns-2 c = too-short _ (c .before .if1 .left) (c .if2 .taken)
 
-sub-at : tie.Need-sub-at
-sub-at c = search needs
-
-sub-read-question : tie.Need-sub-read-question
-sub-read-question c = search needs
-
-part-read-question-start : tie.Need-part-read-question-start
-part-read-question-start c = search needs
-
-part-read-question-end : tie.Need-part-read-question-end
-part-read-question-end c = search needs
-
-read-question-requires : tie.Need-read-question-requires
-read-question-requires c κs = search needs
-
 returns-3 : tie.Need-returns-3
 returns-3 c = last-eight _ (omega arith) (omega arith) _ (c .read-question .ensures)
 
@@ -35,9 +20,9 @@ read-input-spec =
     (tie.spec
     returns
     returns-2
-    sub-at
-    sub-read-question
-    part-read-question-start
-    part-read-question-end
-    read-question-requires
+    (λ c. search needs)
+    (λ c. search needs)
+    (λ c. search needs)
+    (λ c. search needs)
+    (λ c κs. search needs)
     returns-3)

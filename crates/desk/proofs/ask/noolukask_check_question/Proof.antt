@@ -6,23 +6,8 @@ use Rattle.desk.proofs.UnreadLaws.{question-unread}
 use Rattle.desk.proofs.ask.noolukask_check_question.Statement.{statement}
 use Rattle.desk.proofs.ask.noolukask_check_question.Tie as tie
 
-unread-code-requires : tie.Need-unread-code-requires
-unread-code-requires c κs = search needs
-
 returns : tie.Need-returns
 returns c = question-unread _ _ _ _ _ _ (c .unread-code .ensures) (c .before .if1 .taken)
-
-read-marks-requires : tie.Need-read-marks-requires
-read-marks-requires c κs = search needs
-
-slice-aggregate-check-question : tie.Need-slice-aggregate-check-question
-slice-aggregate-check-question c = search needs
-
-check-question-requires : tie.Need-check-question-requires
-check-question-requires c κs = search needs
-
-checked-code-requires : tie.Need-checked-code-requires
-checked-code-requires c κs = search needs
 
 returns-2 : tie.Need-returns-2
 unfolding questionCode
@@ -32,10 +17,10 @@ pub noolukask-check-question-spec : {M : Type 1} → statement M
 noolukask-check-question-spec =
     tie.close
     (tie.spec
-    unread-code-requires
+    (λ c κs. search needs)
     returns
-    read-marks-requires
-    slice-aggregate-check-question
-    check-question-requires
-    checked-code-requires
+    (λ c κs. search needs)
+    (λ c. search needs)
+    (λ c κs. search needs)
+    (λ c κs. search needs)
     returns-2)

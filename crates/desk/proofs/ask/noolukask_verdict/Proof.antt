@@ -6,23 +6,8 @@ use Rattle.desk.proofs.UnreadLaws.{verdict-unread}
 use Rattle.desk.proofs.ask.noolukask_verdict.Statement.{statement}
 use Rattle.desk.proofs.ask.noolukask_verdict.Tie as tie
 
-unread-code-requires : tie.Need-unread-code-requires
-unread-code-requires c κs = search needs
-
 returns : tie.Need-returns
 returns c = verdict-unread _ _ _ _ _ _ (c .unread-code .ensures) (c .before .if1 .taken)
-
-read-marks-requires : tie.Need-read-marks-requires
-read-marks-requires c κs = search needs
-
-slice-aggregate-verdict : tie.Need-slice-aggregate-verdict
-slice-aggregate-verdict c = search needs
-
-verdict-requires : tie.Need-verdict-requires
-verdict-requires c κs = search needs
-
-verdict-code-requires : tie.Need-verdict-code-requires
-verdict-code-requires c κs = search needs
 
 returns-2 : tie.Need-returns-2
 unfolding verdictCode
@@ -32,10 +17,10 @@ pub noolukask-verdict-spec : {M : Type 1} → statement M
 noolukask-verdict-spec =
     tie.close
     (tie.spec
-    unread-code-requires
+    (λ c κs. search needs)
     returns
-    read-marks-requires
-    slice-aggregate-verdict
-    verdict-requires
-    verdict-code-requires
+    (λ c κs. search needs)
+    (λ c. search needs)
+    (λ c κs. search needs)
+    (λ c κs. search needs)
     returns-2)

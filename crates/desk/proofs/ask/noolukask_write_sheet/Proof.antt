@@ -6,26 +6,8 @@ use Rattle.desk.proofs.UnreadLaws.{sheet-unread}
 use Rattle.desk.proofs.ask.noolukask_write_sheet.Statement.{statement}
 use Rattle.desk.proofs.ask.noolukask_write_sheet.Tie as tie
 
-unread-code-requires : tie.Need-unread-code-requires
-unread-code-requires c κs = search needs
-
 returns : tie.Need-returns
 returns c = sheet-unread _ _ _ _ _ _ (c .unread-code .ensures) (c .before .if1 .taken) _
-
-read-marks-requires : tie.Need-read-marks-requires
-read-marks-requires c κs = search needs
-
-slice-aggregate-write-sheet : tie.Need-slice-aggregate-write-sheet
-slice-aggregate-write-sheet c = search needs
-
-write-sheet-requires : tie.Need-write-sheet-requires
-write-sheet-requires c κs = search needs
-
-sheet-code-requires : tie.Need-sheet-code-requires
-sheet-code-requires c κs = search needs
-
-same-length : tie.Need-same-length
-same-length c = search needs
 
 returns-2 : tie.Need-returns-2
 unfolding sheetCode
@@ -39,11 +21,11 @@ pub noolukask-write-sheet-spec : {M : Type 1} → statement M
 noolukask-write-sheet-spec =
     tie.close
     (tie.spec
-    unread-code-requires
+    (λ c κs. search needs)
     returns
-    read-marks-requires
-    slice-aggregate-write-sheet
-    write-sheet-requires
-    sheet-code-requires
-    same-length
+    (λ c κs. search needs)
+    (λ c. search needs)
+    (λ c κs. search needs)
+    (λ c κs. search needs)
+    (λ c. search needs)
     returns-2)

@@ -8,12 +8,6 @@ use Rattle.desk.proofs.MarksLaws.{module-read}
 use Rattle.desk.proofs.reason.noolukask_module.Statement.{statement}
 use Rattle.desk.proofs.reason.noolukask_module.Tie as tie
 
-unread-requires : tie.Need-unread-requires
-unread-requires c κs = search needs
-
-unread-code-requires : tie.Need-unread-code-requires
-unread-code-requires c κs = search needs
-
 returns : tie.Need-returns
 returns c =
     let a = c .before .before .before .before .before .before .args in
@@ -26,20 +20,8 @@ lengths c = let a = c .before .before .before .before .before .args in read-both
 read-marks-requires : tie.Need-read-marks-requires
 read-marks-requires c κs = lengths c .0
 
-slice-aggregate-module-for : tie.Need-slice-aggregate-module-for
-slice-aggregate-module-for c = search needs
-
-slice-aggregate-module-for-2 : tie.Need-slice-aggregate-module-for-2
-slice-aggregate-module-for-2 c = search needs
-
-module-for-requires : tie.Need-module-for-requires
-module-for-requires c κs = search needs
-
 module-code-requires : tie.Need-module-code-requires
 module-code-requires c κs = (search needs, lengths (c .before .before .before .before .before .before .before) .1)
-
-same-length : tie.Need-same-length
-same-length c = search needs
 
 returns-2 : tie.Need-returns-2
 returns-2 c =
@@ -53,13 +35,13 @@ pub noolukask-module-spec : {M : Type 1} → statement M
 noolukask-module-spec =
     tie.close
     (tie.spec
-    unread-requires
-    unread-code-requires
+    (λ c κs. search needs)
+    (λ c κs. search needs)
     returns
     read-marks-requires
-    slice-aggregate-module-for
-    slice-aggregate-module-for-2
-    module-for-requires
+    (λ c. search needs)
+    (λ c. search needs)
+    (λ c κs. search needs)
     module-code-requires
-    same-length
+    (λ c. search needs)
     returns-2)

@@ -8,12 +8,6 @@ use Rattle.desk.proofs.MarksLaws.{set-read}
 use Rattle.desk.proofs.reason.noolukask_printed_set.Statement.{statement}
 use Rattle.desk.proofs.reason.noolukask_printed_set.Tie as tie
 
-unread-requires : tie.Need-unread-requires
-unread-requires c κs = search needs
-
-unread-code-requires : tie.Need-unread-code-requires
-unread-code-requires c κs = search needs
-
 returns : tie.Need-returns
 returns c =
     let a = c .before .before .before .before .before .before .args in
@@ -26,20 +20,8 @@ lengths c = let a = c .before .before .before .before .before .args in read-both
 read-marks-requires : tie.Need-read-marks-requires
 read-marks-requires c κs = lengths c .0
 
-slice-aggregate-printed-set : tie.Need-slice-aggregate-printed-set
-slice-aggregate-printed-set c = search needs
-
-slice-aggregate-printed-set-2 : tie.Need-slice-aggregate-printed-set-2
-slice-aggregate-printed-set-2 c = search needs
-
-printed-set-requires : tie.Need-printed-set-requires
-printed-set-requires c κs = search needs
-
 set-code-requires : tie.Need-set-code-requires
 set-code-requires c κs = (search needs, lengths (c .before .before .before .before .before .before .before) .1)
-
-same-length : tie.Need-same-length
-same-length c = search needs
 
 returns-2 : tie.Need-returns-2
 returns-2 c =
@@ -53,13 +35,13 @@ pub noolukask-printed-set-spec : {M : Type 1} → statement M
 noolukask-printed-set-spec =
     tie.close
     (tie.spec
-    unread-requires
-    unread-code-requires
+    (λ c κs. search needs)
+    (λ c κs. search needs)
     returns
     read-marks-requires
-    slice-aggregate-printed-set
-    slice-aggregate-printed-set-2
-    printed-set-requires
+    (λ c. search needs)
+    (λ c. search needs)
+    (λ c κs. search needs)
     set-code-requires
-    same-length
+    (λ c. search needs)
     returns-2)

@@ -3,39 +3,6 @@ use borrow.Author.Needs.{needs}
 use Rattle.desk.proofs.reason.set_code.Statement.{statement}
 use Rattle.desk.proofs.reason.set_code.Tie as tie
 
-enum-known-answer : tie.Need-enum-known-answer
-enum-known-answer c = search needs
-
-refusal-number-requires : tie.Need-refusal-number-requires
-refusal-number-requires c κs = search needs
-
-refusal-place-requires : tie.Need-refusal-place-requires
-refusal-place-requires c κs = search needs
-
-desk-code-requires : tie.Need-desk-code-requires
-desk-code-requires c κs = search needs
-
-enum-told : tie.Need-enum-told
-enum-told c = search needs
-
-desk-code-requires-2 : tie.Need-desk-code-requires-2
-desk-code-requires-2 c κs = search needs
-
-enum-told-2 : tie.Need-enum-told-2
-enum-told-2 c = search needs
-
-desk-code-requires-3 : tie.Need-desk-code-requires-3
-desk-code-requires-3 c κs = search needs
-
-enum-known-answer-2 : tie.Need-enum-known-answer-2
-enum-known-answer-2 c = search needs
-
-write-marks-requires : tie.Need-write-marks-requires
-write-marks-requires c κs = search needs
-
-desk-code-requires-4 : tie.Need-desk-code-requires-4
-desk-code-requires-4 c κs = search needs
-
 returns : tie.Need-returns
 returns c =
     let e = c .before .before .before .before .answer .given .1 in
@@ -47,9 +14,6 @@ returns-2 c = let e = c .before .enum-told .given .1 in (rw e (c .desk-code2 .en
 returns-3 : tie.Need-returns-3
 returns-3 c = let e = c .before .enum-told2 .given .1 in (rw e (c .desk-code3 .ensures), rw e)
 
-same-length : tie.Need-same-length
-same-length c = search needs
-
 returns-4 : tie.Need-returns-4
 returns-4 c =
     let e = c .before .before .before .before .before .before .answer2 .given .1 in
@@ -59,19 +23,19 @@ pub set-code-spec : {M : Type 1} → statement M
 set-code-spec =
     tie.close
     (tie.spec
-    enum-known-answer
-    refusal-number-requires
-    refusal-place-requires
-    desk-code-requires
-    enum-told
-    desk-code-requires-2
-    enum-told-2
-    desk-code-requires-3
-    enum-known-answer-2
-    write-marks-requires
-    desk-code-requires-4
+    (λ c. search needs)
+    (λ c κs. search needs)
+    (λ c κs. search needs)
+    (λ c κs. search needs)
+    (λ c. search needs)
+    (λ c κs. search needs)
+    (λ c. search needs)
+    (λ c κs. search needs)
+    (λ c. search needs)
+    (λ c κs. search needs)
+    (λ c κs. search needs)
     returns
     returns-2
     returns-3
-    same-length
+    (λ c. search needs)
     returns-4)

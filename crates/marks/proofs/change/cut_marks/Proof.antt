@@ -18,27 +18,6 @@ abbrev μ-loop : tie.MeasureT-loop
 loop-holds : tie.Need-loop-holds Inv-loop μ-loop
 loop-holds c = filled-start _ _ refl
 
-mark-word-requires : tie.Need-mark-word-requires Inv-loop μ-loop
-mark-word-requires c κs = search needs
-
-mul-cut-word : tie.Need-mul-cut-word Inv-loop μ-loop
-mul-cut-word c = omega arith
-
-cut-word-requires : tie.Need-cut-word-requires Inv-loop μ-loop
-cut-word-requires c κs = search needs
-
-mul-words : tie.Need-mul-words Inv-loop μ-loop
-mul-words c = omega arith
-
-array-write-words : tie.Need-array-write-words Inv-loop μ-loop
-array-write-words c = omega arith
-
-add-j : tie.Need-add-j Inv-loop μ-loop
-add-j c = omega arith
-
-loop-less : tie.Need-loop-less Inv-loop μ-loop
-loop-less c = omega arith
-
 loop-again : tie.Need-loop-again Inv-loop μ-loop
 loop-again c =
     let l = c .before .before .before .loop in
@@ -54,12 +33,12 @@ cut-marks-spec =
     Inv-loop
     μ-loop
     loop-holds
-    mark-word-requires
-    mul-cut-word
-    cut-word-requires
-    mul-words
-    array-write-words
-    add-j
-    loop-less
+    (λ c κs. search needs)
+    (λ c. omega arith)
+    (λ c κs. search needs)
+    (λ c. omega arith)
+    (λ c. omega arith)
+    (λ c. omega arith)
+    (λ c. omega arith)
     loop-again
     returns)

@@ -28,15 +28,6 @@ bounds c = let a = c .before .before .before in word-bounds (a .before .before .
 loop-holds : tie.Need-loop-holds Inv-loop μ-loop
 loop-holds c = (omega arith, omega arith, λ i a b. absurd (omega arith))
 
-mark-word-requires : tie.Need-mark-word-requires Inv-loop μ-loop
-mark-word-requires c κs = search needs
-
-next-bit-requires : tie.Need-next-bit-requires Inv-loop μ-loop
-next-bit-requires c κs = search needs
-
-mul-i : tie.Need-mul-i Inv-loop μ-loop
-mul-i c = omega arith
-
 add-i : tie.Need-add-i Inv-loop μ-loop
 add-i c = omega (arith, bounds c)
 
@@ -71,9 +62,9 @@ next-marked-spec =
     Inv-loop
     μ-loop
     loop-holds
-    mark-word-requires
-    next-bit-requires
-    mul-i
+    (λ c κs. search needs)
+    (λ c κs. search needs)
+    (λ c. omega arith)
     add-i
     returns
     loop-less

@@ -5,15 +5,6 @@ use Rattle.no.specs.NoSheet.{checkNo}
 use Rattle.no.proofs.check.check_no.Statement.{statement}
 use Rattle.no.proofs.check.check_no.Tie as tie
 
-check-question-requires : tie.Need-check-question-requires
-check-question-requires c κs = search needs
-
-enum-known-checked : tie.Need-enum-known-checked
-enum-known-checked c = search needs
-
-enum-told : tie.Need-enum-told
-enum-told c = search needs
-
 check-no-counted-requires : tie.Need-check-no-counted-requires
 check-no-counted-requires c κs = (_, sym (c .before .before .check-question .ensures) ∙ c .enum-told .given .1)
 
@@ -28,9 +19,9 @@ pub check-no-spec : {M : Type 1} → statement M
 check-no-spec =
     tie.close
     (tie.spec
-    check-question-requires
-    enum-known-checked
-    enum-told
+    (λ c κs. search needs)
+    (λ c. search needs)
+    (λ c. search needs)
     check-no-counted-requires
     returns
     returns-2)

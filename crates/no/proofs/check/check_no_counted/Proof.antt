@@ -14,15 +14,9 @@ add-thing c = omega (arith, asked _ _ _ _ _ _ (c .before .before .before .pre .1
 mul-thing : tie.Need-mul-thing
 mul-thing c = omega (arith, asked _ _ _ _ _ _ (c .before .before .before .pre .1) .pack .m-most)
 
-rem-if1 : tie.Need-rem-if1
-rem-if1 c = search needs
-
 returns : tie.Need-returns
 unfolding checkNo
 returns c = rw (c .before .before .before .before .pre .1, ne-eqb _ _ (c .if1 .taken))
-
-div-k : tie.Need-div-k
-div-k c = search needs
 
 returns-2 : tie.Need-returns-2
 unfolding checkNo
@@ -45,9 +39,9 @@ check-no-counted-spec =
     (tie.spec
     add-thing
     mul-thing
-    rem-if1
+    (λ c. search needs)
     returns
-    div-k
+    (λ c. search needs)
     returns-2
     returns-3
     check-rows-requires

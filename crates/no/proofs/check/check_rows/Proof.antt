@@ -13,12 +13,6 @@ use Rattle.no.proofs.check.check_rows.Tie as tie
 add-rows : tie.Need-add-rows
 add-rows c = omega (arith, asked _ _ _ _ _ _ (c .before .before .before .pre .0 .1) .pack .m-most)
 
-mul-rows : tie.Need-mul-rows
-mul-rows c = search needs
-
-lowest-forbidden-requires : tie.Need-lowest-forbidden-requires
-lowest-forbidden-requires c κs = search needs
-
 cast-t13 : tie.Need-cast-t13
 cast-t13 c = omega (arith, rows-few (c .before .before .before .before .before .args .m) (c .before .before .before .before .before .args .k) (asked _ _ _ _ _ _ (c .before .before .before .before .before .pre .0 .1) .pack .m-most) (c .before .before .before .before .before .pre .2))
 
@@ -54,8 +48,8 @@ check-rows-spec =
     tie.close
     (tie.spec
     add-rows
-    mul-rows
-    lowest-forbidden-requires
+    (λ c. search needs)
+    (λ c κs. search needs)
     cast-t13
     returns
     cast-check-world

@@ -34,12 +34,6 @@ returns c =
     let l = c .before .before .before .loop in
     sym (lowest-here _ (l .i) _ (c .before .before .loop-test .taken) (sym (c .before .place-broken .ensures) ∙ c .if1 .taken)) ∙ l .inv .1
 
-add-i : tie.Need-add-i Inv-loop μ-loop
-add-i c = omega arith
-
-loop-less : tie.Need-loop-less Inv-loop μ-loop
-loop-less c = omega arith
-
 loop-again : tie.Need-loop-again Inv-loop μ-loop
 loop-again c =
     let l = c .before .before .before .loop in
@@ -57,7 +51,7 @@ lowest-broken-spec =
     loop-holds
     place-broken-requires
     returns
-    add-i
-    loop-less
+    (λ c. omega arith)
+    (λ c. omega arith)
     loop-again
     returns-2)

@@ -19,19 +19,10 @@ loop-holds : tie.Need-loop-holds Inv-loop μ-loop
 unfolding lowestForbidden
 loop-holds c = (omega arith, ap (lowest _ 0) (omega (arith, c .before .pre .0)))
 
-row-forbidden-requires : tie.Need-row-forbidden-requires Inv-loop μ-loop
-row-forbidden-requires c κs = omega arith
-
 returns : tie.Need-returns Inv-loop μ-loop
 returns c =
     let l = c .before .before .before .loop in
     sym (lowest-here _ (l .i) _ (c .before .before .loop-test .taken) (sym (c .before .row-forbidden .ensures) ∙ c .if1 .taken)) ∙ l .inv .1
-
-add-i : tie.Need-add-i Inv-loop μ-loop
-add-i c = omega arith
-
-loop-less : tie.Need-loop-less Inv-loop μ-loop
-loop-less c = omega arith
 
 loop-again : tie.Need-loop-again Inv-loop μ-loop
 loop-again c =
@@ -48,9 +39,9 @@ lowest-forbidden-spec =
     Inv-loop
     μ-loop
     loop-holds
-    row-forbidden-requires
+    (λ c κs. omega arith)
     returns
-    add-i
-    loop-less
+    (λ c. omega arith)
+    (λ c. omega arith)
     loop-again
     returns-2)

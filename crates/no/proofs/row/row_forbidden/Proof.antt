@@ -5,21 +5,9 @@ use Rattle.no.specs.NoSheet.{forbidden}
 use Rattle.no.proofs.row.row_forbidden.Statement.{statement}
 use Rattle.no.proofs.row.row_forbidden.Tie as tie
 
-row-at-requires : tie.Need-row-at-requires
-row-at-requires c κs = search needs
-
-past-limit-requires : tie.Need-past-limit-requires
-past-limit-requires c κs = search needs
-
 returns : tie.Need-returns
 unfolding forbidden
 returns c = rw (lt-ltb _ _ (c .before .before .if1 .taken)) (rw (c .before .row-at .ensures) at (c .past-limit .ensures))
-
-row-at-requires-2 : tie.Need-row-at-requires-2
-row-at-requires-2 c κs = search needs
-
-past-limit-requires-2 : tie.Need-past-limit-requires-2
-past-limit-requires-2 c κs = search needs
 
 returns-2 : tie.Need-returns-2
 unfolding forbidden
@@ -29,9 +17,9 @@ pub row-forbidden-spec : {M : Type 1} → statement M
 row-forbidden-spec =
     tie.close
     (tie.spec
-    row-at-requires
-    past-limit-requires
+    (λ c κs. search needs)
+    (λ c κs. search needs)
     returns
-    row-at-requires-2
-    past-limit-requires-2
+    (λ c κs. search needs)
+    (λ c κs. search needs)
     returns-2)

@@ -10,29 +10,11 @@ use Rattle.no.proofs.WorldRows.{meets-things, inside-things, chain-thin
 use Rattle.no.proofs.thing.thing_obeys.Statement.{statement}
 use Rattle.no.proofs.thing.thing_obeys.Tie as tie
 
-enum-known-l : tie.Need-enum-known-l
-enum-known-l c = search needs
-
-row-at-requires : tie.Need-row-at-requires
-row-at-requires c κs = search needs
-
 row-under-requires : tie.Need-row-under-requires
 row-under-requires c κs = rw (c .before .before .l .given .1) at (c .before .before .before .before .before .pre .1)
 
-enum-known-l-2 : tie.Need-enum-known-l-2
-enum-known-l-2 c = search needs
-
-row-at-requires-2 : tie.Need-row-at-requires-2
-row-at-requires-2 c κs = search needs
-
 row-both-requires : tie.Need-row-both-requires
 row-both-requires c κs = rw (c .before .before .l2 .given .1) at (c .before .before .before .before .before .pre .1)
-
-enum-known-l-3 : tie.Need-enum-known-l-3
-enum-known-l-3 c = search needs
-
-row-at-requires-3 : tie.Need-row-at-requires-3
-row-at-requires-3 c κs = search needs
 
 link-row-requires : tie.Need-link-row-requires
 link-row-requires c κs = (c .before .before .before .before .before .pre .0, (rw (c .before .before .l3 .given .1) at (c .before .before .before .before .before .pre .1)) .1, c .before .before .before .before .before .pre .3)
@@ -40,20 +22,11 @@ link-row-requires c κs = (c .before .before .before .before .before .pre .0, (r
 row-under-some-requires : tie.Need-row-under-some-requires
 row-under-some-requires c κs = (rw (c .before .before .before .l3 .given .1) at (c .before .before .before .before .before .before .pre .1)) .0
 
-enum-known-l-4 : tie.Need-enum-known-l-4
-enum-known-l-4 c = search needs
-
 link-row-requires-2 : tie.Need-link-row-requires-2
 link-row-requires-2 c κs = (c .before .before .before .before .pre .0, (rw (c .before .l4 .given .1) at (c .before .before .before .before .pre .1)) .0, c .before .before .before .before .pre .3)
 
-row-at-requires-4 : tie.Need-row-at-requires-4
-row-at-requires-4 c κs = search needs
-
 row-some-under-requires : tie.Need-row-some-under-requires
 row-some-under-requires c κs = (rw (c .before .before .before .l4 .given .1) at (c .before .before .before .before .before .before .pre .1)) .2
-
-enum-known-l-5 : tie.Need-enum-known-l-5
-enum-known-l-5 c = search needs
 
 link-row-requires-3 : tie.Need-link-row-requires-3
 link-row-requires-3 c κs = (c .before .before .before .before .pre .0, (rw (c .before .l5 .given .1) at (c .before .before .before .before .pre .1)) .0, c .before .before .before .before .pre .3)
@@ -61,19 +34,10 @@ link-row-requires-3 c κs = (c .before .before .before .before .pre .0, (rw (c .
 link-row-requires-4 : tie.Need-link-row-requires-4
 link-row-requires-4 c κs = (c .before .before .before .before .before .pre .0, (rw (c .before .before .l5 .given .1) at (c .before .before .before .before .before .pre .1)) .1, c .before .before .before .before .before .pre .3)
 
-row-inside-requires : tie.Need-row-inside-requires
-row-inside-requires c κs = search needs
-
-enum-known-l-6 : tie.Need-enum-known-l-6
-enum-known-l-6 c = search needs
-
 chain-at-requires : tie.Need-chain-at-requires
 chain-at-requires c κs =
     let fits = rw (c .before .l6 .given .1) at (c .before .before .before .before .pre .1) in
     (c .before .before .before .before .pre .0, fits .0, fits .1, fits .2, c .before .before .before .before .pre .3)
-
-enum-told : tie.Need-enum-told
-enum-told c = search needs
 
 returns : tie.Need-returns
 unfolding obeysAt
@@ -125,27 +89,27 @@ pub thing-obeys-spec : {M : Type 1} → statement M
 thing-obeys-spec =
     tie.close
     (tie.spec
-    enum-known-l
-    row-at-requires
+    (λ c. search needs)
+    (λ c κs. search needs)
     row-under-requires
-    enum-known-l-2
-    row-at-requires-2
+    (λ c. search needs)
+    (λ c κs. search needs)
     row-both-requires
-    enum-known-l-3
-    row-at-requires-3
+    (λ c. search needs)
+    (λ c κs. search needs)
     link-row-requires
     row-under-some-requires
-    enum-known-l-4
+    (λ c. search needs)
     link-row-requires-2
-    row-at-requires-4
+    (λ c κs. search needs)
     row-some-under-requires
-    enum-known-l-5
+    (λ c. search needs)
     link-row-requires-3
     link-row-requires-4
-    row-inside-requires
-    enum-known-l-6
+    (λ c κs. search needs)
+    (λ c. search needs)
     chain-at-requires
-    enum-told
+    (λ c. search needs)
     returns
     returns-2
     returns-3

@@ -25,12 +25,6 @@ loop-holds c = (omega arith, λ j h. absurd (omega arith))
 thing-obeys-requires : tie.Need-thing-obeys-requires Inv-loop μ-loop
 thing-obeys-requires c κs = (c .before .before .before .before .pre .0, c .before .before .before .before .pre .1, c .before .before .column-for .ensures, c .loop-test .taken)
 
-add-x : tie.Need-add-x Inv-loop μ-loop
-add-x c = omega arith
-
-loop-less : tie.Need-loop-less Inv-loop μ-loop
-loop-less c = omega arith
-
 loop-again : tie.Need-loop-again Inv-loop μ-loop
 loop-again c = (omega arith, below-more _ _ (c .before .before .before .loop .inv .1) (sym (c .before .thing-obeys .ensures) ∙ c .if1 .taken))
 
@@ -51,8 +45,8 @@ world-obeys-spec =
     column-for-requires
     loop-holds
     thing-obeys-requires
-    add-x
-    loop-less
+    (λ c. omega arith)
+    (λ c. omega arith)
     loop-again
     returns
     returns-2)

@@ -26,12 +26,6 @@ returns : tie.Need-returns Inv-loop μ-loop
 unfolding refutes
 returns c = sym (true-some _ _ (c .before .before .before .loop .x) (c .before .before .loop-test .taken) (sym (c .before .thing-refutes .ensures) ∙ c .if1 .taken))
 
-add-x : tie.Need-add-x Inv-loop μ-loop
-add-x c = omega arith
-
-loop-less : tie.Need-loop-less Inv-loop μ-loop
-loop-less c = omega arith
-
 loop-again : tie.Need-loop-again Inv-loop μ-loop
 loop-again c = (omega arith, below-more _ _ (c .before .before .before .loop .inv .1) (sym (c .before .thing-refutes .ensures) ∙ c .if1 .left))
 
@@ -48,7 +42,7 @@ world-refutes-spec =
     loop-holds
     thing-refutes-requires
     returns
-    add-x
-    loop-less
+    (λ c. omega arith)
+    (λ c. omega arith)
     loop-again
     returns-2)

@@ -20,35 +20,8 @@ loop-holds : tie.Need-loop-holds Inv-loop μ-loop
 unfolding listed
 loop-holds c = (omega arith, refl, refl)
 
-mul-at : tie.Need-mul-at Inv-loop μ-loop
-mul-at c = omega arith
-
-add-end : tie.Need-add-end Inv-loop μ-loop
-add-end c = omega arith
-
-sub-read-word : tie.Need-sub-read-word Inv-loop μ-loop
-sub-read-word c = omega arith
-
-part-read-word-start : tie.Need-part-read-word-start Inv-loop μ-loop
-part-read-word-start c = omega arith
-
-part-read-word-end : tie.Need-part-read-word-end Inv-loop μ-loop
-part-read-word-end c = omega arith
-
 read-word-requires : tie.Need-read-word-requires Inv-loop μ-loop
 read-word-requires c κs = simp (length-take, length-drop) (omega arith)
-
-mul-words : tie.Need-mul-words Inv-loop μ-loop
-mul-words c = omega arith
-
-array-write-words : tie.Need-array-write-words Inv-loop μ-loop
-array-write-words c = omega arith
-
-add-j : tie.Need-add-j Inv-loop μ-loop
-add-j c = omega arith
-
-loop-less : tie.Need-loop-less Inv-loop μ-loop
-loop-less c = omega arith
 
 loop-again : tie.Need-loop-again Inv-loop μ-loop
 loop-again c =
@@ -69,15 +42,15 @@ read-marks-spec =
     Inv-loop
     μ-loop
     loop-holds
-    mul-at
-    add-end
-    sub-read-word
-    part-read-word-start
-    part-read-word-end
+    (λ c. omega arith)
+    (λ c. omega arith)
+    (λ c. omega arith)
+    (λ c. omega arith)
+    (λ c. omega arith)
     read-word-requires
-    mul-words
-    array-write-words
-    add-j
-    loop-less
+    (λ c. omega arith)
+    (λ c. omega arith)
+    (λ c. omega arith)
+    (λ c. omega arith)
     loop-again
     returns)

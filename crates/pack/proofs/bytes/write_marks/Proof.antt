@@ -22,21 +22,6 @@ long c = let pre = c .before .before .before .pre in ap length (c .before .loop 
 loop-holds : tie.Need-loop-holds Inv-loop μ-loop
 loop-holds c = (omega arith, filled-start _ _)
 
-mul-at : tie.Need-mul-at Inv-loop μ-loop
-mul-at c = omega arith
-
-add-end : tie.Need-add-end Inv-loop μ-loop
-add-end c = omega arith
-
-mul-w : tie.Need-mul-w Inv-loop μ-loop
-mul-w c = omega arith
-
-element-copy-out-w : tie.Need-element-copy-out-w Inv-loop μ-loop
-element-copy-out-w c = omega arith
-
-sub-write-word : tie.Need-sub-write-word Inv-loop μ-loop
-sub-write-word c = omega arith
-
 part-write-word-start : tie.Need-part-write-word-start Inv-loop μ-loop
 part-write-word-start c = omega (arith, long (c .before))
 
@@ -45,12 +30,6 @@ part-write-word-end c = omega (arith, long (c .before))
 
 write-word-requires : tie.Need-write-word-requires Inv-loop μ-loop
 write-word-requires c κs = simp (length-take, length-drop) (omega (arith, long (c .before .before)))
-
-add-j : tie.Need-add-j Inv-loop μ-loop
-add-j c = omega arith
-
-loop-less : tie.Need-loop-less Inv-loop μ-loop
-loop-less c = omega arith
 
 loop-again : tie.Need-loop-again Inv-loop μ-loop
 loop-again c =
@@ -76,16 +55,16 @@ write-marks-spec =
     Inv-loop
     μ-loop
     loop-holds
-    mul-at
-    add-end
-    mul-w
-    element-copy-out-w
-    sub-write-word
+    (λ c. omega arith)
+    (λ c. omega arith)
+    (λ c. omega arith)
+    (λ c. omega arith)
+    (λ c. omega arith)
     part-write-word-start
     part-write-word-end
     write-word-requires
-    add-j
-    loop-less
+    (λ c. omega arith)
+    (λ c. omega arith)
     loop-again
     same-length
     returns)

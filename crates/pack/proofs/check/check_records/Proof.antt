@@ -20,30 +20,15 @@ abbrev μ-loop : tie.MeasureT-loop
 loop-holds : tie.Need-loop-holds Inv-loop μ-loop
 loop-holds c = (omega arith, refl, rw sub-zero)
 
-place-keeps-requires : tie.Need-place-keeps-requires Inv-loop μ-loop
-place-keeps-requires c κs = omega arith
-
-add-i : tie.Need-add-i Inv-loop μ-loop
-add-i c = omega arith
-
-loop-less : tie.Need-loop-less Inv-loop μ-loop
-loop-less c = omega arith
-
 loop-again : tie.Need-loop-again Inv-loop μ-loop
 loop-again c =
     let l = c .before .before .before .loop .inv in
     (omega arith, l .1, sym (broken-on _ _ _ _ (omega arith) (c .before .place-keeps .ensures) (c .if1 .taken)) ∙ l .2)
 
-cast-t9 : tie.Need-cast-t9 Inv-loop μ-loop
-cast-t9 c = omega arith
-
 returns : tie.Need-returns Inv-loop μ-loop
 returns c =
     let l = c .before .before .before .loop .inv in
     broken-here _ _ _ _ (omega arith) (c .before .place-keeps .ensures) (c .if1 .left) (l .2)
-
-cast-t11 : tie.Need-cast-t11 Inv-loop μ-loop
-cast-t11 c = omega arith
 
 returns-2 : tie.Need-returns-2 Inv-loop μ-loop
 returns-2 c = broken-none _ _ _ _ (omega arith) (c .before .loop .inv .2)
@@ -55,11 +40,11 @@ check-records-spec =
     Inv-loop
     μ-loop
     loop-holds
-    place-keeps-requires
-    add-i
-    loop-less
+    (λ c κs. omega arith)
+    (λ c. omega arith)
+    (λ c. omega arith)
     loop-again
-    cast-t9
+    (λ c. omega arith)
     returns
-    cast-t11
+    (λ c. omega arith)
     returns-2)

@@ -5,18 +5,6 @@ use Rattle.pack.specs.Question.{checkQuestion}
 use Rattle.pack.proofs.question.check_question.Statement.{statement}
 use Rattle.pack.proofs.question.check_question.Tie as tie
 
-check-pack-requires : tie.Need-check-pack-requires
-check-pack-requires c κs = search needs
-
-enum-known-checked : tie.Need-enum-known-checked
-enum-known-checked c = search needs
-
-enum-known-checked-2 : tie.Need-enum-known-checked-2
-enum-known-checked-2 c = search needs
-
-check-counted-requires : tie.Need-check-counted-requires
-check-counted-requires c κs = search needs
-
 returns : tie.Need-returns
 unfolding checkQuestion
 returns c =
@@ -31,9 +19,9 @@ pub check-question-spec : {M : Type 1} → statement M
 check-question-spec =
     tie.close
     (tie.spec
-    check-pack-requires
-    enum-known-checked
-    enum-known-checked-2
-    check-counted-requires
+    (λ c κs. search needs)
+    (λ c. search needs)
+    (λ c. search needs)
+    (λ c κs. search needs)
     returns
     returns-2)

@@ -20,20 +20,11 @@ abbrev μ-loop : tie.MeasureT-loop
 add-next-marked : tie.Need-add-next-marked Inv-loop μ-loop
 add-next-marked c = omega (arith, c .before .pre)
 
-next-marked-requires : tie.Need-next-marked-requires Inv-loop μ-loop
-next-marked-requires c κs = search needs
-
 add-next-marked-2 : tie.Need-add-next-marked-2 Inv-loop μ-loop
 add-next-marked-2 c = omega (arith, c .before .before .pre, next-lowest _ _ _ (c .next-marked .ensures) .within)
 
-next-marked-requires-2 : tie.Need-next-marked-requires-2 Inv-loop μ-loop
-next-marked-requires-2 c κs = search needs
-
 add-next-marked-3 : tie.Need-add-next-marked-3 Inv-loop μ-loop
 add-next-marked-3 c = omega (arith, c .before .before .before .pre, next-lowest _ _ _ (c .before .next-marked .ensures) .within, next-lowest _ _ _ (c .next-marked2 .ensures) .within)
-
-next-marked-requires-3 : tie.Need-next-marked-requires-3 Inv-loop μ-loop
-next-marked-requires-3 c κs = search needs
 
 loop-holds : tie.Need-loop-holds Inv-loop μ-loop
 loop-holds c =
@@ -46,20 +37,11 @@ loop-holds c =
 add-next-marked-4 : tie.Need-add-next-marked-4 Inv-loop μ-loop
 add-next-marked-4 c = omega (arith, c .before .loop .inv)
 
-next-marked-requires-4 : tie.Need-next-marked-requires-4 Inv-loop μ-loop
-next-marked-requires-4 c κs = search needs
-
 add-next-marked-5 : tie.Need-add-next-marked-5 Inv-loop μ-loop
 add-next-marked-5 c = omega (arith, c .before .before .before .before .before .before .before .pre .0)
 
-next-marked-requires-5 : tie.Need-next-marked-requires-5 Inv-loop μ-loop
-next-marked-requires-5 c κs = search needs
-
 add-next-marked-6 : tie.Need-add-next-marked-6 Inv-loop μ-loop
 add-next-marked-6 c = omega (arith, c .before .before .before .before .before .before .before .before .pre .0, next-lowest _ _ _ (c .next-marked5 .ensures) .within)
-
-next-marked-requires-6 : tie.Need-next-marked-requires-6 Inv-loop μ-loop
-next-marked-requires-6 c κs = search needs
 
 loop-less : tie.Need-loop-less Inv-loop μ-loop
 loop-less c = omega (arith, next-lowest _ _ _ (c .before .before .next-marked4 .ensures) .from, c .before .before .before .before .loop .inv)
@@ -84,18 +66,18 @@ halfway-spec =
     Inv-loop
     μ-loop
     add-next-marked
-    next-marked-requires
+    (λ c κs. search needs)
     add-next-marked-2
-    next-marked-requires-2
+    (λ c κs. search needs)
     add-next-marked-3
-    next-marked-requires-3
+    (λ c κs. search needs)
     loop-holds
     add-next-marked-4
-    next-marked-requires-4
+    (λ c κs. search needs)
     add-next-marked-5
-    next-marked-requires-5
+    (λ c κs. search needs)
     add-next-marked-6
-    next-marked-requires-6
+    (λ c κs. search needs)
     loop-less
     loop-again
     returns)

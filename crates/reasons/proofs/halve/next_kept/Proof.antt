@@ -39,9 +39,6 @@ returns c =
 add-next-marked : tie.Need-add-next-marked Inv-loop μ-loop
 add-next-marked c = omega (arith, c .before .before .before .before .pre .2)
 
-next-marked-requires : tie.Need-next-marked-requires Inv-loop μ-loop
-next-marked-requires c κs = search needs
-
 loop-holds : tie.Need-loop-holds Inv-loop μ-loop
 loop-holds c =
     let pre = c .before .before .before .before .before .pre in
@@ -59,9 +56,6 @@ half-of-requires c κs =
 
 add-next-marked-2 : tie.Need-add-next-marked-2 Inv-loop μ-loop
 add-next-marked-2 c = omega (arith, c .before .half-of .ensures .1 .some, c .before .half-of .ensures .1 .most)
-
-next-marked-requires-2 : tie.Need-next-marked-requires-2 Inv-loop μ-loop
-next-marked-requires-2 c κs = search needs
 
 loop-less : tie.Need-loop-less Inv-loop μ-loop
 loop-less c = omega (arith, c .before .before .half-of .ensures .0)
@@ -85,11 +79,11 @@ next-kept-spec =
     goes-without-requires
     returns
     add-next-marked
-    next-marked-requires
+    (λ c κs. search needs)
     loop-holds
     half-of-requires
     add-next-marked-2
-    next-marked-requires-2
+    (λ c κs. search needs)
     loop-less
     loop-again
     returns-2)

@@ -20,9 +20,6 @@ abbrev μ-loop : tie.MeasureT-loop
 slice-aggregate-next-marked : tie.Need-slice-aggregate-next-marked Inv-loop μ-loop
 slice-aggregate-next-marked c = sym (sixteen-again _ (c .before .before .pre .2))
 
-next-marked-requires : tie.Need-next-marked-requires Inv-loop μ-loop
-next-marked-requires c κs = search needs
-
 loop-holds : tie.Need-loop-holds Inv-loop μ-loop
 loop-holds c = let pre = c .before .before .before .pre in pick-start _ _ _ _ _ _ (pre .0) _ (pre .2) (pre .3) (c .next-marked .ensures)
 
@@ -38,17 +35,11 @@ next-kept-requires c κs =
 slice-aggregate-cut-marks : tie.Need-slice-aggregate-cut-marks Inv-loop μ-loop
 slice-aggregate-cut-marks c = sym (sixteen-again _ (c .before .before .before .before .loop .inv .words))
 
-cut-marks-requires : tie.Need-cut-marks-requires Inv-loop μ-loop
-cut-marks-requires c κs = search needs
-
 slice-aggregate-next-marked-2 : tie.Need-slice-aggregate-next-marked-2 Inv-loop μ-loop
 slice-aggregate-next-marked-2 c = sym (ap length (c .before .cut-marks .ensures) ∙ marks-length _)
 
 add-next-marked : tie.Need-add-next-marked Inv-loop μ-loop
 add-next-marked c = omega (arith, c .before .before .before .next-kept .ensures .most)
-
-next-marked-requires-2 : tie.Need-next-marked-requires-2 Inv-loop μ-loop
-next-marked-requires-2 c κs = search needs
 
 loop-less : tie.Need-loop-less Inv-loop μ-loop
 loop-less c = omega (arith, c .before .before .before .before .next-kept .ensures .from, next-lowest _ _ _ (c .next-marked2 .ensures) .from)
@@ -70,15 +61,15 @@ pick-spec =
     Inv-loop
     μ-loop
     slice-aggregate-next-marked
-    next-marked-requires
+    (λ c κs. search needs)
     loop-holds
     slice-aggregate-next-kept
     next-kept-requires
     slice-aggregate-cut-marks
-    cut-marks-requires
+    (λ c κs. search needs)
     slice-aggregate-next-marked-2
     add-next-marked
-    next-marked-requires-2
+    (λ c κs. search needs)
     loop-less
     loop-again
     returns)

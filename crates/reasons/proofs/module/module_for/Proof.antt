@@ -6,12 +6,6 @@ use Rattle.reasons.proofs.OutLaws.{reason-taken}
 use Rattle.reasons.proofs.module.module_for.Statement.{statement}
 use Rattle.reasons.proofs.module.module_for.Tie as tie
 
-check-reason-requires : tie.Need-check-reason-requires
-check-reason-requires c κs = search needs
-
-enum-known-checked : tie.Need-enum-known-checked
-enum-known-checked c = search needs
-
 enum-told : tie.Need-enum-told
 enum-told c = search needs
 
@@ -27,9 +21,6 @@ returns c =
     let t = module-refused _ _ _ (a .marks .now) (a .a) (a .out .now) (sym (c .before .before .before .check-reason .ensures) ∙ c .before .checked .given .1) in
     (sym (t .0), sym (t .1))
 
-same-length : tie.Need-same-length
-same-length c = search needs
-
 returns-2 : tie.Need-returns-2
 returns-2 c =
     let a = c .before .before .before .before .before .before .before .before .before .before .args in
@@ -41,10 +32,10 @@ pub module-for-spec : {M : Type 1} → statement M
 module-for-spec =
     tie.close
     (tie.spec
-    check-reason-requires
-    enum-known-checked
+    (λ c κs. search needs)
+    (λ c. search needs)
     enum-told
     put-module-requires
     returns
-    same-length
+    (λ c. search needs)
     returns-2)

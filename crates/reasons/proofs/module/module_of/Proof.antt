@@ -14,12 +14,6 @@ unreached-requires c κs =
     let q = asked-of _ _ _ _ _ (c .before .before .pre) in
     (lines-widest _ _ _ _ _ (c .before .before .pre), q .pack .size, q .marks .sixteen, omega (arith, q .goalA, q .pack .n-most))
 
-slice-aggregate-marks-without : tie.Need-slice-aggregate-marks-without
-slice-aggregate-marks-without c = search needs
-
-marks-without-requires : tie.Need-marks-without-requires
-marks-without-requires c κs = search needs
-
 returns : tie.Need-returns
 returns c = c .marks-without .ensures ∙ unreached-module _ _ _ _ _ (c .before .before .before .before .before .pre) _ (c .before .before .unreached .ensures .1)
 
@@ -29,6 +23,6 @@ module-of-spec =
     (tie.spec
     cast-unreached
     unreached-requires
-    slice-aggregate-marks-without
-    marks-without-requires
+    (λ c. search needs)
+    (λ c κs. search needs)
     returns)

@@ -7,44 +7,23 @@ use Rattle.reasons.specs.Reach.{allIn}
 use Rattle.reasons.proofs.reach.left_reached.Statement.{statement}
 use Rattle.reasons.proofs.reach.left_reached.Tie as tie
 
-enum-known-l : tie.Need-enum-known-l
-enum-known-l c = search needs
-
 one-set-requires : tie.Need-one-set-requires
 one-set-requires c κs = let v = rw (c .before .l .given .1) at (c .before .before .before .pre) in omega arith
-
-enum-known-l-2 : tie.Need-enum-known-l-2
-enum-known-l-2 c = search needs
 
 both-set-requires : tie.Need-both-set-requires
 both-set-requires c κs = let v = rw (c .before .l2 .given .1) at (c .before .before .before .pre) in omega arith
 
-enum-known-l-3 : tie.Need-enum-known-l-3
-enum-known-l-3 c = search needs
-
 one-set-requires-2 : tie.Need-one-set-requires-2
 one-set-requires-2 c κs = let v = rw (c .before .l3 .given .1) at (c .before .before .before .pre) in omega arith
-
-enum-known-l-4 : tie.Need-enum-known-l-4
-enum-known-l-4 c = search needs
 
 both-set-requires-2 : tie.Need-both-set-requires-2
 both-set-requires-2 c κs = let v = rw (c .before .l4 .given .1) at (c .before .before .before .pre) in omega arith
 
-enum-known-l-5 : tie.Need-enum-known-l-5
-enum-known-l-5 c = search needs
-
 one-set-requires-3 : tie.Need-one-set-requires-3
 one-set-requires-3 c κs = let v = rw (c .before .l5 .given .1) at (c .before .before .before .pre) in omega arith
 
-enum-known-l-6 : tie.Need-enum-known-l-6
-enum-known-l-6 c = search needs
-
 both-set-requires-3 : tie.Need-both-set-requires-3
 both-set-requires-3 c κs = let v = rw (c .before .l6 .given .1) at (c .before .before .before .pre) in omega arith
-
-enum-told : tie.Need-enum-told
-enum-told c = search needs
 
 returns : tie.Need-returns
 unfolding allIn
@@ -78,19 +57,19 @@ pub left-reached-spec : {M : Type 1} → statement M
 left-reached-spec =
     tie.close
     (tie.spec
-    enum-known-l
+    (λ c. search needs)
     one-set-requires
-    enum-known-l-2
+    (λ c. search needs)
     both-set-requires
-    enum-known-l-3
+    (λ c. search needs)
     one-set-requires-2
-    enum-known-l-4
+    (λ c. search needs)
     both-set-requires-2
-    enum-known-l-5
+    (λ c. search needs)
     one-set-requires-3
-    enum-known-l-6
+    (λ c. search needs)
     both-set-requires-3
-    enum-told
+    (λ c. search needs)
     returns
     returns-2
     returns-3

@@ -5,18 +5,6 @@ use Rattle.bits.proofs.Truth.{and-yes}
 use Rattle.reasons.proofs.reach.reach_line.Statement.{statement}
 use Rattle.reasons.proofs.reach.reach_line.Tie as tie
 
-left-reached-requires : tie.Need-left-reached-requires
-left-reached-requires c κs = search needs
-
-unmark-requires : tie.Need-unmark-requires
-unmark-requires c κs = search needs
-
-with-right-requires : tie.Need-with-right-requires
-with-right-requires c κs = search needs
-
-same-length : tie.Need-same-length
-same-length c = search needs
-
 returns : tie.Need-returns
 returns c =
     let e = sym (c .before .before .before .before .before .before .left-reached .ensures) ∙ c .before .before .before .before .before .if1 .taken in
@@ -32,9 +20,9 @@ pub reach-line-spec : {M : Type 1} → statement M
 reach-line-spec =
     tie.close
     (tie.spec
-    left-reached-requires
-    unmark-requires
-    with-right-requires
-    same-length
+    (λ c κs. search needs)
+    (λ c κs. search needs)
+    (λ c κs. search needs)
+    (λ c. search needs)
     returns
     returns-2)

@@ -26,17 +26,11 @@ Inv-loop pack waiting₀ records reached₀ i₀ waiting reached i = (length wai
 abbrev μ-loop : tie.MeasureT-loop
 μ-loop pack waiting₀ records reached₀ i₀ waiting reached i = 1024 - i
 
-next-marked-requires : tie.Need-next-marked-requires Inv-loop μ-loop
-next-marked-requires c κs = search needs
-
 loop-holds : tie.Need-loop-holds Inv-loop μ-loop
 loop-holds c =
     let a = c .before .before .before .before .args in
     let low : Lowest (marked (a .waiting .now)) 0 1024 (c .next-marked .result) = rw (c .next-marked .ensures) (lowest-is (marked (a .waiting .now)) 0 1024) in
     (c .before .before .before .before .pre .2, λ l. low .found (omega (arith, c .before .before .before .before .pre .1)), passed-start _ _ _ low)
-
-line-at-requires : tie.Need-line-at-requires Inv-loop μ-loop
-line-at-requires c κs = omega arith
 
 -- the place's line; that it is a place
 here : (c : tie.After-line-at Inv-loop μ-loop) → lineAt (linesOf (c .before .before .before .before .before .before .before .args .pack .now)) (c .before .before .loop .i) ≡ c .line-at .result
@@ -50,9 +44,6 @@ reach-line-requires c κs = (subst (ValidLine 64 8) (here (c .before)) (c .befor
 
 add-next-marked : tie.Need-add-next-marked Inv-loop μ-loop
 add-next-marked c = omega (arith, c .before .before .before .before .before .before .before .before .before .before .before .before .pre .1)
-
-next-marked-requires-2 : tie.Need-next-marked-requires-2 Inv-loop μ-loop
-next-marked-requires-2 c κs = search needs
 
 loop-less : tie.Need-loop-less Inv-loop μ-loop
 loop-less c = omega (arith, c .before .before .before .before .before .before .before .before .before .before .before .before .before .pre .1, next-lowest _ _ _ (c .next-marked2 .ensures) .from)
@@ -87,12 +78,12 @@ reach-pass-spec =
     (tie.spec
     Inv-loop
     μ-loop
-    next-marked-requires
+    (λ c κs. search needs)
     loop-holds
-    line-at-requires
+    (λ c κs. omega arith)
     reach-line-requires
     add-next-marked
-    next-marked-requires-2
+    (λ c κs. search needs)
     loop-less
     loop-again
     same-length

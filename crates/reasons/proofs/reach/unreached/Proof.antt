@@ -22,9 +22,6 @@ abbrev μ-loop : tie.MeasureT-loop
 with-concept-requires : tie.Need-with-concept-requires Inv-loop μ-loop
 with-concept-requires c κs = c .before .before .pre .3
 
-cut-marks-requires : tie.Need-cut-marks-requires Inv-loop μ-loop
-cut-marks-requires c κs = search needs
-
 loop-holds : tie.Need-loop-holds Inv-loop μ-loop
 loop-holds c =
     let cut = c .cut-marks .ensures in
@@ -35,9 +32,6 @@ slice-aggregate-reach-pass c = sym (c .before .loop .inv .2)
 
 reach-pass-requires : tie.Need-reach-pass-requires Inv-loop μ-loop
 reach-pass-requires c κs = let pre = c .before .before .before .before .before .before .pre in (pre .0, pre .1, c .before .loop .inv .2)
-
-same-names-requires : tie.Need-same-names-requires Inv-loop μ-loop
-same-names-requires c κs = search needs
 
 returns : tie.Need-returns Inv-loop μ-loop
 returns c =
@@ -67,11 +61,11 @@ unreached-spec =
     Inv-loop
     μ-loop
     with-concept-requires
-    cut-marks-requires
+    (λ c κs. search needs)
     loop-holds
     slice-aggregate-reach-pass
     reach-pass-requires
-    same-names-requires
+    (λ c κs. search needs)
     returns
     loop-less
     loop-again)

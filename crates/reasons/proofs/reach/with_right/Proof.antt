@@ -4,20 +4,11 @@ use borrow.Author.Needs.{needs}
 use Rattle.reasons.proofs.reach.with_right.Statement.{statement}
 use Rattle.reasons.proofs.reach.with_right.Tie as tie
 
-enum-known-l : tie.Need-enum-known-l
-enum-known-l c = search needs
-
 with-concept-requires : tie.Need-with-concept-requires
 with-concept-requires c κs = let v = rw (c .before .l .given .1) at (c .before .before .before .pre) in omega arith
 
-enum-known-l-2 : tie.Need-enum-known-l-2
-enum-known-l-2 c = search needs
-
 with-concept-requires-2 : tie.Need-with-concept-requires-2
 with-concept-requires-2 c κs = let v = rw (c .before .l2 .given .1) at (c .before .before .before .pre) in omega arith
-
-enum-known-l-3 : tie.Need-enum-known-l-3
-enum-known-l-3 c = search needs
 
 with-role-requires : tie.Need-with-role-requires
 with-role-requires c κs = let v = rw (c .before .l3 .given .1) at (c .before .before .before .pre) in omega arith
@@ -25,26 +16,14 @@ with-role-requires c κs = let v = rw (c .before .l3 .given .1) at (c .before .b
 with-concept-requires-3 : tie.Need-with-concept-requires-3
 with-concept-requires-3 c κs = let v = rw (c .before .before .l3 .given .1) at (c .before .before .before .before .pre) in omega arith
 
-enum-known-l-4 : tie.Need-enum-known-l-4
-enum-known-l-4 c = search needs
-
 with-concept-requires-4 : tie.Need-with-concept-requires-4
 with-concept-requires-4 c κs = let v = rw (c .before .l4 .given .1) at (c .before .before .before .pre) in omega arith
-
-enum-known-l-5 : tie.Need-enum-known-l-5
-enum-known-l-5 c = search needs
 
 with-role-requires-2 : tie.Need-with-role-requires-2
 with-role-requires-2 c κs = let v = rw (c .before .l5 .given .1) at (c .before .before .before .pre) in omega arith
 
-enum-known-l-6 : tie.Need-enum-known-l-6
-enum-known-l-6 c = search needs
-
 with-role-requires-3 : tie.Need-with-role-requires-3
 with-role-requires-3 c κs = let v = rw (c .before .l6 .given .1) at (c .before .before .before .pre) in omega arith
-
-enum-told : tie.Need-enum-told
-enum-told c = search needs
 
 returns : tie.Need-returns
 returns c = rw (c .before .before .l .given .1) (c .with-concept .ensures)
@@ -64,31 +43,28 @@ returns-5 c = rw (c .before .before .l5 .given .1) (c .with-role2 .ensures)
 returns-6 : tie.Need-returns-6
 returns-6 c = rw (c .before .before .l6 .given .1) (c .with-role3 .ensures)
 
-returns-7 : tie.Need-returns-7
-returns-7 c = search needs
-
 pub with-right-spec : {M : Type 1} → statement M
 with-right-spec =
     tie.close
     (tie.spec
-    enum-known-l
+    (λ c. search needs)
     with-concept-requires
-    enum-known-l-2
+    (λ c. search needs)
     with-concept-requires-2
-    enum-known-l-3
+    (λ c. search needs)
     with-role-requires
     with-concept-requires-3
-    enum-known-l-4
+    (λ c. search needs)
     with-concept-requires-4
-    enum-known-l-5
+    (λ c. search needs)
     with-role-requires-2
-    enum-known-l-6
+    (λ c. search needs)
     with-role-requires-3
-    enum-told
+    (λ c. search needs)
     returns
     returns-2
     returns-3
     returns-4
     returns-5
     returns-6
-    returns-7)
+    (λ c. search needs))

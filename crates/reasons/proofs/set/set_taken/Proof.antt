@@ -5,21 +5,6 @@ use Rattle.engine.proofs.VerdictRight.{verdict-right}
 use Rattle.reasons.proofs.set.set_taken.Statement.{statement}
 use Rattle.reasons.proofs.set.set_taken.Tie as tie
 
-verdict-requires : tie.Need-verdict-requires
-verdict-requires c κs = search needs
-
-enum-known-answer : tie.Need-enum-known-answer
-enum-known-answer c = search needs
-
-enum-told : tie.Need-enum-told
-enum-told c = search needs
-
-enum-told-2 : tie.Need-enum-told-2
-enum-told-2 c = search needs
-
-enum-told-3 : tie.Need-enum-told-3
-enum-told-3 c = search needs
-
 put-set-requires : tie.Need-put-set-requires
 put-set-requires c κs =
     let pre = c .before .before .before .before .before .before .before .pre in
@@ -34,9 +19,6 @@ returns-2 c = (rw (sym (c .before .before .verdict .ensures) ∙ c .enum-told .g
 returns-3 : tie.Need-returns-3
 returns-3 c = (rw (sym (c .before .before .verdict .ensures) ∙ c .enum-told2 .given .1), refl)
 
-same-length : tie.Need-same-length
-same-length c = search needs
-
 returns-4 : tie.Need-returns-4
 returns-4 c =
     let put = c .before .before .put-set .ensures in
@@ -46,14 +28,14 @@ pub set-taken-spec : {M : Type 1} → statement M
 set-taken-spec =
     tie.close
     (tie.spec
-    verdict-requires
-    enum-known-answer
-    enum-told
-    enum-told-2
-    enum-told-3
+    (λ c κs. search needs)
+    (λ c. search needs)
+    (λ c. search needs)
+    (λ c. search needs)
+    (λ c. search needs)
     put-set-requires
     returns
     returns-2
     returns-3
-    same-length
+    (λ c. search needs)
     returns-4)

@@ -5,30 +5,9 @@ use Rattle.sheets.specs.Calls.{noCode}
 use Rattle.sheets.proofs.calls.noolukask_check_no.Statement.{statement}
 use Rattle.sheets.proofs.calls.noolukask_check_no.Tie as tie
 
-read-marks-requires : tie.Need-read-marks-requires
-read-marks-requires c κs = search needs
-
-slice-aggregate-check-no : tie.Need-slice-aggregate-check-no
-slice-aggregate-check-no c = search needs
-
-check-no-requires : tie.Need-check-no-requires
-check-no-requires c κs = search needs
-
-no-code-requires : tie.Need-no-code-requires
-no-code-requires c κs = search needs
-
 returns : tie.Need-returns
 unfolding noCode
 returns c = rw (eq-eqb _ _ (c .before .before .before .before .if1 .taken)) (rw (c .before .check-no .ensures, c .before .before .before .read-marks .ensures) at (c .no-code .ensures))
-
-slice-aggregate-check-no-2 : tie.Need-slice-aggregate-check-no-2
-slice-aggregate-check-no-2 c = search needs
-
-check-no-requires-2 : tie.Need-check-no-requires-2
-check-no-requires-2 c κs = search needs
-
-no-code-requires-2 : tie.Need-no-code-requires-2
-no-code-requires-2 c κs = search needs
 
 returns-2 : tie.Need-returns-2
 unfolding noCode
@@ -38,12 +17,12 @@ pub noolukask-check-no-spec : {M : Type 1} → statement M
 noolukask-check-no-spec =
     tie.close
     (tie.spec
-    read-marks-requires
-    slice-aggregate-check-no
-    check-no-requires
-    no-code-requires
+    (λ c κs. search needs)
+    (λ c. search needs)
+    (λ c κs. search needs)
+    (λ c κs. search needs)
     returns
-    slice-aggregate-check-no-2
-    check-no-requires-2
-    no-code-requires-2
+    (λ c. search needs)
+    (λ c κs. search needs)
+    (λ c κs. search needs)
     returns-2)

@@ -5,18 +5,6 @@ use Rattle.sheets.specs.Calls.{yesCode}
 use Rattle.sheets.proofs.calls.noolukask_check_yes.Statement.{statement}
 use Rattle.sheets.proofs.calls.noolukask_check_yes.Tie as tie
 
-read-marks-requires : tie.Need-read-marks-requires
-read-marks-requires c κs = search needs
-
-slice-aggregate-check-yes : tie.Need-slice-aggregate-check-yes
-slice-aggregate-check-yes c = search needs
-
-check-yes-requires : tie.Need-check-yes-requires
-check-yes-requires c κs = search needs
-
-yes-code-requires : tie.Need-yes-code-requires
-yes-code-requires c κs = search needs
-
 returns : tie.Need-returns
 unfolding yesCode
 returns c =
@@ -24,15 +12,6 @@ returns c =
     let marks = eq-eqb _ _ (read .before .if1 .taken) in
     let answer = rw (read .read-marks .ensures) at (c .before .check-yes .ensures) in
     rw (marks, ← answer) (c .yes-code .ensures)
-
-slice-aggregate-check-yes-2 : tie.Need-slice-aggregate-check-yes-2
-slice-aggregate-check-yes-2 c = search needs
-
-check-yes-requires-2 : tie.Need-check-yes-requires-2
-check-yes-requires-2 c κs = search needs
-
-yes-code-requires-2 : tie.Need-yes-code-requires-2
-yes-code-requires-2 c κs = search needs
 
 returns-2 : tie.Need-returns-2
 unfolding yesCode
@@ -44,12 +23,12 @@ pub noolukask-check-yes-spec : {M : Type 1} → statement M
 noolukask-check-yes-spec =
     tie.close
     (tie.spec
-    read-marks-requires
-    slice-aggregate-check-yes
-    check-yes-requires
-    yes-code-requires
+    (λ c κs. search needs)
+    (λ c. search needs)
+    (λ c κs. search needs)
+    (λ c κs. search needs)
     returns
-    slice-aggregate-check-yes-2
-    check-yes-requires-2
-    yes-code-requires-2
+    (λ c. search needs)
+    (λ c κs. search needs)
+    (λ c κs. search needs)
     returns-2)

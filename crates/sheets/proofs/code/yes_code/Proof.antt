@@ -3,33 +3,6 @@ use borrow.Author.Needs.{needs}
 use Rattle.sheets.proofs.code.yes_code.Statement.{statement}
 use Rattle.sheets.proofs.code.yes_code.Tie as tie
 
-enum-known-answer : tie.Need-enum-known-answer
-enum-known-answer c = search needs
-
-refusal-number-requires : tie.Need-refusal-number-requires
-refusal-number-requires c κs = search needs
-
-refusal-place-requires : tie.Need-refusal-place-requires
-refusal-place-requires c κs = search needs
-
-place-code-requires : tie.Need-place-code-requires
-place-code-requires c κs = search needs
-
-enum-told : tie.Need-enum-told
-enum-told c = search needs
-
-enum-known-answer-2 : tie.Need-enum-known-answer-2
-enum-known-answer-2 c = search needs
-
-place-code-requires-2 : tie.Need-place-code-requires-2
-place-code-requires-2 c κs = search needs
-
-enum-told-2 : tie.Need-enum-told-2
-enum-told-2 c = search needs
-
-enum-told-3 : tie.Need-enum-told-3
-enum-told-3 c = search needs
-
 returns : tie.Need-returns
 returns c = rw (c .before .before .before .before .answer .given .1) (rw (c .before .before .refusal-number .ensures, c .before .refusal-place .ensures) at (c .place-code .ensures))
 
@@ -49,15 +22,15 @@ pub yes-code-spec : {M : Type 1} → statement M
 yes-code-spec =
     tie.close
     (tie.spec
-    enum-known-answer
-    refusal-number-requires
-    refusal-place-requires
-    place-code-requires
-    enum-told
-    enum-known-answer-2
-    place-code-requires-2
-    enum-told-2
-    enum-told-3
+    (λ c. search needs)
+    (λ c κs. search needs)
+    (λ c κs. search needs)
+    (λ c κs. search needs)
+    (λ c. search needs)
+    (λ c. search needs)
+    (λ c κs. search needs)
+    (λ c. search needs)
+    (λ c. search needs)
     returns
     returns-2
     returns-3

@@ -15,28 +15,13 @@ role c = div-less (c .before .args .i) (c .before .args .n) (c .before .pre .0) 
 thing : (c : tie.Else1) → (c .before .args .i - c .before .args .n) % c .before .args .n < c .before .args .n
 thing c = mod-lt (c .before .args .i - c .before .args .n) (c .before .pre .0)
 
-mul-word : tie.Need-mul-word
-mul-word c = search needs
-
-element-copy-out-word : tie.Need-element-copy-out-word
-element-copy-out-word c = search needs
-
-word-requires : tie.Need-word-requires
-word-requires c κs = search needs
-
 returns : tie.Need-returns
 returns c =
     let e = lt-ltb _ _ (c .before .before .if1 .taken) in
     (rw e (c .word .ensures .0), rw (e, ← c .word .ensures .0) (c .word .ensures .1))
 
-div-at : tie.Need-div-at
-div-at c = search needs
-
 mul-at : tie.Need-mul-at
 mul-at c = omega (arith, role c, thing c, c .before .pre .1)
-
-rem-at : tie.Need-rem-at
-rem-at c = search needs
 
 add-at : tie.Need-add-at
 add-at c = omega (arith, role c, thing c, c .before .pre .1)
@@ -47,9 +32,6 @@ mul-word-2 c = omega (arith, role c, thing c, c .before .pre .1)
 element-copy-out-word-2 : tie.Need-element-copy-out-word-2
 element-copy-out-word-2 c = omega (arith, role c, thing c, c .before .pre .1)
 
-word-requires-2 : tie.Need-word-requires-2
-word-requires-2 c κs = search needs
-
 returns-2 : tie.Need-returns-2
 returns-2 c =
     let e = le-ltb _ _ (c .before .before .if1 .left) in
@@ -59,15 +41,15 @@ pub row-of-spec : {M : Type 1} → statement M
 row-of-spec =
     tie.close
     (tie.spec
-    mul-word
-    element-copy-out-word
-    word-requires
+    (λ c. search needs)
+    (λ c. search needs)
+    (λ c κs. search needs)
     returns
-    div-at
+    (λ c. search needs)
     mul-at
-    rem-at
+    (λ c. search needs)
     add-at
     mul-word-2
     element-copy-out-word-2
-    word-requires-2
+    (λ c κs. search needs)
     returns-2)

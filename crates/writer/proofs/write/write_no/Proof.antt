@@ -12,9 +12,6 @@ use Rattle.writer.specs.Inner.{rowIn, rowsBytes}
 use Rattle.writer.proofs.write.write_no.Statement.{statement}
 use Rattle.writer.proofs.write.write_no.Tie as tie
 
-add-rows : tie.Need-add-rows
-add-rows c = search needs
-
 mul-rows : tie.Need-mul-rows
 mul-rows c = omega (arith, rows-few (c .before .args .m) (c .before .args .n) (c .before .pre .2) (c .before .pre .1))
 
@@ -37,9 +34,6 @@ write-rows-requires c κs =
 cast-t14 : tie.Need-cast-t14
 cast-t14 c = omega (arith, rows-few (c .before .before .before .before .before .before .args .m) (c .before .before .before .before .before .before .args .n) (c .before .before .before .before .before .before .pre .2) (c .before .before .before .before .before .before .pre .1))
 
-same-length : tie.Need-same-length
-same-length c = search needs
-
 returns-2 : tie.Need-returns-2
 unfolding rowsBytes
 returns-2 c =
@@ -51,12 +45,12 @@ pub write-no-spec : {M : Type 1} → statement M
 write-no-spec =
     tie.close
     (tie.spec
-    add-rows
+    (λ c. search needs)
     mul-rows
     mul-need
     cast-t10
     returns
     write-rows-requires
     cast-t14
-    same-length
+    (λ c. search needs)
     returns-2)

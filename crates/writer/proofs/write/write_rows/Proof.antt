@@ -34,9 +34,6 @@ add-end c = omega (arith, long c, c .before .before .before .pre .3)
 row-of-requires : tie.Need-row-of-requires Inv-loop μ-loop
 row-of-requires c κs = (c .before .before .before .pre .0, c .before .before .before .pre .1, omega (arith, c .before .before .before .pre .2, c .loop-test .taken))
 
-sub-write-word : tie.Need-sub-write-word Inv-loop μ-loop
-sub-write-word c = omega arith
-
 part-write-word-start : tie.Need-part-write-word-start Inv-loop μ-loop
 part-write-word-start c = omega (arith, long (c .before), c .before .before .before .before .pre .3, c .before .loop-test .taken)
 
@@ -45,12 +42,6 @@ part-write-word-end c = omega (arith, long (c .before), c .before .before .befor
 
 write-word-requires : tie.Need-write-word-requires Inv-loop μ-loop
 write-word-requires c κs = simp (length-take, length-drop) (omega (arith, long (c .before .before), c .before .before .before .before .before .pre .3, c .before .before .loop-test .taken))
-
-add-i : tie.Need-add-i Inv-loop μ-loop
-add-i c = omega arith
-
-loop-less : tie.Need-loop-less Inv-loop μ-loop
-loop-less c = omega arith
 
 loop-again : tie.Need-loop-again Inv-loop μ-loop
 loop-again c =
@@ -83,12 +74,12 @@ write-rows-spec =
     mul-at
     add-end
     row-of-requires
-    sub-write-word
+    (λ c. omega arith)
     part-write-word-start
     part-write-word-end
     write-word-requires
-    add-i
-    loop-less
+    (λ c. omega arith)
+    (λ c. omega arith)
     loop-again
     same-length
     returns)

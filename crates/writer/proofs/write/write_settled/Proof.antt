@@ -26,9 +26,6 @@ cast-in-held c = omega (arith, asked _ _ _ _ _ _ (c .before .before .before .bef
 cast-in-held-2 : tie.Need-cast-in-held-2
 cast-in-held-2 c = omega (arith, asked _ _ _ _ _ _ (c .before .before .before .before .before .before .before .before .before .before .before .pre .0 .1) .goalB, asked _ _ _ _ _ _ (c .before .before .before .before .before .before .before .before .before .before .before .pre .0 .1) .pack .n-most)
 
-in-held-requires : tie.Need-in-held-requires
-in-held-requires c κs = search needs
-
 write-yes-requires : tie.Need-write-yes-requires
 unfolding held
 write-yes-requires c κs =
@@ -71,7 +68,7 @@ write-settled-spec =
     returns
     cast-in-held
     cast-in-held-2
-    in-held-requires
+    (λ c κs. search needs)
     write-yes-requires
     same-length
     returns-2

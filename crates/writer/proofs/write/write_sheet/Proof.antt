@@ -5,15 +5,6 @@ use Rattle.writer.specs.Sheet.{askSheet, writtenSheet}
 use Rattle.writer.proofs.write.write_sheet.Statement.{statement}
 use Rattle.writer.proofs.write.write_sheet.Tie as tie
 
-check-question-requires : tie.Need-check-question-requires
-check-question-requires c κs = search needs
-
-enum-known-checked : tie.Need-enum-known-checked
-enum-known-checked c = search needs
-
-enum-told : tie.Need-enum-told
-enum-told c = search needs
-
 write-taken-requires : tie.Need-write-taken-requires
 write-taken-requires c κs = (_, sym (c .before .before .before .check-question .ensures) ∙ c .before .enum-told .given .1)
 
@@ -33,9 +24,9 @@ pub write-sheet-spec : {M : Type 1} → statement M
 write-sheet-spec =
     tie.close
     (tie.spec
-    check-question-requires
-    enum-known-checked
-    enum-told
+    (λ c κs. search needs)
+    (λ c. search needs)
+    (λ c. search needs)
     write-taken-requires
     returns
     same-length

@@ -18,23 +18,11 @@ cast-t14 c = omega (arith, c .before .before .before .before .pre .4)
 returns : tie.Need-returns
 returns c = yes-short _ _ _ _ _ _ (c .before .before .before .before .pre .0 .1) _ (c .before .before .before .before .pre .2) _ (c .before .before .before .before .pre .3) (c .if1 .taken)
 
-sub-settle : tie.Need-sub-settle
-sub-settle c = omega arith
-
-part-settle-start : tie.Need-part-settle-start
-part-settle-start c = omega arith
-
-part-settle-end : tie.Need-part-settle-end
-part-settle-end c = omega arith
-
 settle-requires : tie.Need-settle-requires
 settle-requires c κs = (c .before .before .before .before .before .pre .0, c .before .before .before .before .before .pre .1)
 
 cast-t18 : tie.Need-cast-t18
 cast-t18 c = omega (arith, by-contra (c .before .before .settle .result .count) 36800 (λ l. end-few _ _ _ _ _ _ (c .before .before .before .before .before .before .before .before .pre .0 .1) (c .before .before .before .before .before .before .before .before .pre .1) _ _ _ _ _ (c .before .before .settle .ensures) l))
-
-same-length : tie.Need-same-length
-same-length c = search needs
 
 returns-2 : tie.Need-returns-2
 returns-2 c =
@@ -51,10 +39,10 @@ write-yes-spec =
     mul-need
     cast-t14
     returns
-    sub-settle
-    part-settle-start
-    part-settle-end
+    (λ c. omega arith)
+    (λ c. omega arith)
+    (λ c. omega arith)
     settle-requires
     cast-t18
-    same-length
+    (λ c. search needs)
     returns-2)

@@ -25,39 +25,15 @@ abbrev μ-loop : tie.MeasureT-loop
 question : (c : tie.Start Inv-loop μ-loop) → let a = c .args in Asked (a .n) (a .m) (a .pack .now) (a .marks .now) (a .a) (a .b) (c .pre .0 .0)
 question c = asked _ _ _ _ _ _ (c .pre .0 .1)
 
-start-tables-requires : tie.Need-start-tables-requires Inv-loop μ-loop
-start-tables-requires c κs = search needs
-
 loop-holds : tie.Need-loop-holds Inv-loop μ-loop
 loop-holds c =
     let q = question (c .before .before .before .before .before .before) in
     (refl, omega arith, rw (c .before .before .start-tables .ensures) (passed-none _ _ _ _ (q .pack .n-most)))
 
-mul-at : tie.Need-mul-at Inv-loop μ-loop
-mul-at c = omega arith
-
-add-end : tie.Need-add-end Inv-loop μ-loop
-add-end c = omega arith
-
-sub-check-step : tie.Need-sub-check-step Inv-loop μ-loop
-sub-check-step c = omega arith
-
-part-check-step-start : tie.Need-part-check-step-start Inv-loop μ-loop
-part-check-step-start c = omega arith
-
-part-check-step-end : tie.Need-part-check-step-end Inv-loop μ-loop
-part-check-step-end c = omega arith
-
 check-step-requires : tie.Need-check-step-requires Inv-loop μ-loop
 check-step-requires c κs =
     let at = c .before .before .before .before in
     cut-length (at .before .before .before .before .before .before .before .args .sheet .now) (at .loop .i) (omega arith)
-
-add-i : tie.Need-add-i Inv-loop μ-loop
-add-i c = omega arith
-
-loop-less : tie.Need-loop-less Inv-loop μ-loop
-loop-less c = omega arith
 
 loop-again : tie.Need-loop-again Inv-loop μ-loop
 loop-again c =
@@ -68,9 +44,6 @@ loop-again c =
       omega arith,
       passed-more _ _ _ _ (loop .inv .2) (omega arith) (step .0) (q .n-most) (q .m-most) (lines-valid _ _ _ (q .all)) (c .if1 .taken) (step .1 .0) (step .1 .1),
     )
-
-cast-t24 : tie.Need-cast-t24 Inv-loop μ-loop
-cast-t24 c = omega arith
 
 returns : tie.Need-returns Inv-loop μ-loop
 returns c =
@@ -84,9 +57,6 @@ cast-in-held c = let q = question (c .before .before .before .before .before .be
 cast-in-held-2 : tie.Need-cast-in-held-2 Inv-loop μ-loop
 cast-in-held-2 c = let q = question (c .before .before .before .before .before .before .before .before .before) in omega arith
 
-in-held-requires : tie.Need-in-held-requires Inv-loop μ-loop
-in-held-requires c κs = search needs
-
 returns-2 : tie.Need-returns-2 Inv-loop μ-loop
 returns-2 c = goal-shown _ _ _ _ (c .before .before .before .before .loop .inv .2) (omega arith) _ _ (c .before .in-held .ensures) (c .if2 .taken)
 
@@ -99,21 +69,21 @@ check-steps-spec =
     (tie.spec
     Inv-loop
     μ-loop
-    start-tables-requires
+    (λ c κs. search needs)
     loop-holds
-    mul-at
-    add-end
-    sub-check-step
-    part-check-step-start
-    part-check-step-end
+    (λ c. omega arith)
+    (λ c. omega arith)
+    (λ c. omega arith)
+    (λ c. omega arith)
+    (λ c. omega arith)
     check-step-requires
-    add-i
-    loop-less
+    (λ c. omega arith)
+    (λ c. omega arith)
     loop-again
-    cast-t24
+    (λ c. omega arith)
     returns
     cast-in-held
     cast-in-held-2
-    in-held-requires
+    (λ c κs. search needs)
     returns-2
     returns-3)

@@ -5,15 +5,6 @@ use Rattle.yes.specs.YesSheet.{checkYes}
 use Rattle.yes.proofs.check.check_yes.Statement.{statement}
 use Rattle.yes.proofs.check.check_yes.Tie as tie
 
-check-question-requires : tie.Need-check-question-requires
-check-question-requires c κs = search needs
-
-enum-known-checked : tie.Need-enum-known-checked
-enum-known-checked c = search needs
-
-enum-told : tie.Need-enum-told
-enum-told c = search needs
-
 check-yes-counted-requires : tie.Need-check-yes-counted-requires
 check-yes-counted-requires c κs = (_, sym (c .before .before .check-question .ensures) ∙ c .enum-told .given .1)
 
@@ -21,16 +12,13 @@ returns : tie.Need-returns
 unfolding checkYes
 returns c = rw (sym (c .before .before .before .check-question .ensures) ∙ c .before .checked .given .1)
 
-returns-2 : tie.Need-returns-2
-returns-2 c = search needs
-
 pub check-yes-spec : {M : Type 1} → statement M
 check-yes-spec =
     tie.close
     (tie.spec
-    check-question-requires
-    enum-known-checked
-    enum-told
+    (λ c κs. search needs)
+    (λ c. search needs)
+    (λ c. search needs)
     check-yes-counted-requires
     returns
-    returns-2)
+    (λ c. search needs))

@@ -41,29 +41,8 @@ conclusion-is : (c : tie.After-line-at)
     conclusion (c .line-at .result) (s .x) (s .y) (s .z) ≡ conclusionOf (linesOf (a .pack .now)) (stepIn (a .part .now))
 conclusion-is c = concludes _ _ (c .before .before .before .before .before .read-step .ensures) (c .line-at .ensures) (below (c .before))
 
-read-step-requires : tie.Need-read-step-requires
-read-step-requires c κs = search needs
-
-zeros-zero-requires : tie.Need-zeros-zero-requires
-zeros-zero-requires c κs = search needs
-
-place-counts-requires : tie.Need-place-counts-requires
-place-counts-requires c κs = search needs
-
 line-at-requires : tie.Need-line-at-requires
 line-at-requires c κs = below c
-
-numbers-fit-requires : tie.Need-numbers-fit-requires
-numbers-fit-requires c κs = search needs
-
-premises-held-requires : tie.Need-premises-held-requires
-premises-held-requires c κs = search needs
-
-conclude-requires : tie.Need-conclude-requires
-conclude-requires c κs = search needs
-
-add-fact-requires : tie.Need-add-fact-requires
-add-fact-requires c κs = search needs
 
 returns : tie.Need-returns
 returns c =
@@ -98,14 +77,14 @@ pub check-step-spec : {M : Type 1} → statement M
 check-step-spec =
     tie.close
     (tie.spec
-    read-step-requires
-    zeros-zero-requires
-    place-counts-requires
+    (λ c κs. search needs)
+    (λ c κs. search needs)
+    (λ c κs. search needs)
     line-at-requires
-    numbers-fit-requires
-    premises-held-requires
-    conclude-requires
-    add-fact-requires
+    (λ c κs. search needs)
+    (λ c κs. search needs)
+    (λ c κs. search needs)
+    (λ c κs. search needs)
     returns
     returns-2
     returns-3

@@ -5,23 +5,8 @@ use borrow.Author.Tests.{lt-ltb, le-ltb}
 use Rattle.yes.proofs.step.numbers_fit.Statement.{statement}
 use Rattle.yes.proofs.step.numbers_fit.Tie as tie
 
-cast-if1 : tie.Need-cast-if1
-cast-if1 c = search needs
-
 returns : tie.Need-returns
 returns c = rw (le-ltb _ _ (c .if1 .taken))
-
-uses-y-requires : tie.Need-uses-y-requires
-uses-y-requires c κs = search needs
-
-number-fits-requires : tie.Need-number-fits-requires
-number-fits-requires c κs = search needs
-
-uses-z-requires : tie.Need-uses-z-requires
-uses-z-requires c κs = search needs
-
-number-fits-requires-2 : tie.Need-number-fits-requires-2
-number-fits-requires-2 c κs = search needs
 
 returns-2 : tie.Need-returns-2
 returns-2 c =
@@ -39,11 +24,11 @@ pub numbers-fit-spec : {M : Type 1} → statement M
 numbers-fit-spec =
     tie.close
     (tie.spec
-    cast-if1
+    (λ c. search needs)
     returns
-    uses-y-requires
-    number-fits-requires
-    uses-z-requires
-    number-fits-requires-2
+    (λ c κs. search needs)
+    (λ c κs. search needs)
+    (λ c κs. search needs)
+    (λ c κs. search needs)
     returns-2
     returns-3)

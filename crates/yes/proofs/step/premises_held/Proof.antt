@@ -4,18 +4,6 @@ use borrow.Author.Needs.{needs}
 use Rattle.yes.proofs.step.premises_held.Statement.{statement}
 use Rattle.yes.proofs.step.premises_held.Tie as tie
 
-premise-one-requires : tie.Need-premise-one-requires
-premise-one-requires c κs = search needs
-
-fact-held-requires : tie.Need-fact-held-requires
-fact-held-requires c κs = search needs
-
-premise-two-requires : tie.Need-premise-two-requires
-premise-two-requires c κs = search needs
-
-fact-held-requires-2 : tie.Need-fact-held-requires-2
-fact-held-requires-2 c κs = search needs
-
 returns : tie.Need-returns
 returns c =
     let one = c .before .before .before in
@@ -31,9 +19,9 @@ pub premises-held-spec : {M : Type 1} → statement M
 premises-held-spec =
     tie.close
     (tie.spec
-    premise-one-requires
-    fact-held-requires
-    premise-two-requires
-    fact-held-requires-2
+    (λ c κs. search needs)
+    (λ c κs. search needs)
+    (λ c κs. search needs)
+    (λ c κs. search needs)
     returns
     returns-2)

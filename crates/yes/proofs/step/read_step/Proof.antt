@@ -6,24 +6,6 @@ use Rattle.pack.specs.Bytes.{littleEndian}
 use Rattle.yes.proofs.step.read_step.Statement.{statement}
 use Rattle.yes.proofs.step.read_step.Tie as tie
 
-shared-slice-read-two-bytes : tie.Need-shared-slice-read-two-bytes
-shared-slice-read-two-bytes c = search needs
-
-shared-slice-read-two-bytes-2 : tie.Need-shared-slice-read-two-bytes-2
-shared-slice-read-two-bytes-2 c = search needs
-
-two-bytes-requires : tie.Need-two-bytes-requires
-two-bytes-requires c κs = search needs
-
-shared-slice-read-t8 : tie.Need-shared-slice-read-t8
-shared-slice-read-t8 c = search needs
-
-shared-slice-read-t10 : tie.Need-shared-slice-read-t10
-shared-slice-read-t10 c = search needs
-
-shared-slice-read-t12 : tie.Need-shared-slice-read-t12
-shared-slice-read-t12 c = search needs
-
 returns : tie.Need-returns
 unfolding littleEndian
 returns c =
@@ -35,10 +17,10 @@ pub read-step-spec : {M : Type 1} → statement M
 read-step-spec =
     tie.close
     (tie.spec
-    shared-slice-read-two-bytes
-    shared-slice-read-two-bytes-2
-    two-bytes-requires
-    shared-slice-read-t8
-    shared-slice-read-t10
-    shared-slice-read-t12
+    (λ c. search needs)
+    (λ c. search needs)
+    (λ c κs. search needs)
+    (λ c. search needs)
+    (λ c. search needs)
+    (λ c. search needs)
     returns)
