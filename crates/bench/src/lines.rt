@@ -1,6 +1,7 @@
 // Lines on standard output.
 use marks::look::next_marked;
 use pack::check::Refusal;
+use pack::check::refusal_number;
 
 // A word and a number.
 pub fn number_line(word: &[u8], number: u32) {
@@ -21,14 +22,11 @@ fn record_line(place: u32) {
     io::write_all(1, b"\n");
 }
 
-// A refusal of 1 to 5.
+// A refusal of 1 to 5, by the table's number.
 pub fn refusal_line(why: Refusal) {
     match why {
-        Refusal::Sizes => refused_line(1),
-        Refusal::Pack => refused_line(2),
         Refusal::Record(place) => record_line(place),
-        Refusal::Marks => refused_line(4),
-        Refusal::Goal => refused_line(5),
+        _ => refused_line(refusal_number(why)),
     }
 }
 

@@ -2,3 +2,4 @@
 pub mod Promises
 pub mod UnreadLaws
 pub mod MarksLaws
+pub mod CallsRight

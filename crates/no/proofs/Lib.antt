@@ -2,4 +2,5 @@
 pub mod RowLaws
 pub mod WorldRows
 pub mod NoLaws
+pub mod GivenLaws
 pub mod Cases

@@ -6,7 +6,9 @@ ghost use lib.ListN.{length};
 ghost use Rattle.pack.specs.World.{lineAt, obeys};
 ghost use Rattle.pack.specs.Record.{linesOf, recordCount};
 ghost use Rattle.pack.specs.Question.{counted, Taken};
+ghost use Rattle.pack.specs.Table.{Given};
 ghost use Rattle.no.specs.NoSheet.{worldOf, rowsOf, lowestBroken, checkWorld, checkRows, checkNo};
+ghost use Rattle.no.specs.Answers.{noNumber, noPlace, noTable};
 ghost use Rattle.no.specs.Inner.{ThingsFit, LinesFit};
 use crate::row::lowest_forbidden;
 use crate::thing::world_obeys;
@@ -141,7 +143,8 @@ pub fn check_no<'a>(
     b: usize,
     sheet: &'a [u8],
 ) -> NoAnswer
-    ensures { λ r. ⌜ r ≡ checkNo n m (now (pack .entry)) (now (marks .entry)) a b (now (sheet .entry)) ⌝ }
+    ensures answer { λ r. ⌜ r ≡ checkNo n m (now (pack .entry)) (now (marks .entry)) a b (now (sheet .entry)) ⌝ }
+    ensures table { λ r. ⌜ Given (noNumber r) (noPlace r) 0 (noTable n m (now (pack .entry)) (now (marks .entry)) a b (now (sheet .entry))) ⌝ }
 {
     let checked = check_question(n, m, pack, marks, a, b);
     match checked {

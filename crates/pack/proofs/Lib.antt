@@ -4,6 +4,7 @@ pub mod BytesLaws
 pub mod RecordLaws
 pub mod PackLaws
 pub mod QuestionLaws
+pub mod GivenLaws
 pub mod WorldLaws
 pub mod RuleLaws
 pub mod Ranges

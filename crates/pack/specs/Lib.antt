@@ -6,3 +6,4 @@ pub mod Record
 pub mod Answers
 pub mod Pack
 pub mod Question
+pub mod Table

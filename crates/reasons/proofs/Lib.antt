@@ -5,6 +5,7 @@ pub mod ReachLaws
 pub mod InsideLaws
 pub mod Cases
 pub mod OutLaws
+pub mod GivenLaws
 pub mod HalveLaws
 pub mod AskLaws
 pub mod NameLaws

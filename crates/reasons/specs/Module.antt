@@ -1,4 +1,5 @@
 -- What the module call answers, and the out marks afterwards.
+use mathlib.Core.Bool.{Bool}
 use mathlib.Core.List.{List}
 use Prim.Native.Nat.{ℕ}
 use lib.ListN.{length}
@@ -7,7 +8,7 @@ use Rattle.pack.specs.declared.check.Checked.{Checked}
 use Rattle.pack.specs.declared.check.Checked.the-variants.{Refused, Count}
 use Rattle.pack.specs.Question.{counted}
 use Rattle.pack.specs.Record.{linesOf}
-use Rattle.reasons.specs.OutMarks.{checkReason}
+use Rattle.reasons.specs.OutMarks.{checkReason, reasonTable}
 use Rattle.reasons.specs.Reach.{moduleOf}
 
 -- the marks of the module for a
@@ -30,3 +31,7 @@ moduleOut (Count k) ours out = ours
 
 unfoldable pub writtenModule : ℕ → ℕ → List ℕ → List ℕ → ℕ → List ℕ → List ℕ
 writtenModule n m s ws a out = moduleOut (askModule n m s ws a out) (moduleMarks n m s ws a) out
+
+-- document 01's rows for the module: 1 to 5. Otherwise the number of its records comes back
+abbrev pub moduleTable : ℕ → ℕ → List ℕ → List ℕ → ℕ → List ℕ → List (Bool × ℕ)
+moduleTable n m s ws a out = reasonTable n m s ws a a (length out)

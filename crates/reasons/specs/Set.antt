@@ -1,5 +1,6 @@
 -- What the printed set's call answers, and the out marks afterwards.
-use mathlib.Core.List.{List}
+use mathlib.Core.Bool.{Bool, not}
+use mathlib.Core.List.{List, [], _∷_, _++_}
 use Prim.Native.Nat.{ℕ}
 use lib.ListN.{length}
 use Rattle.marks.specs.Marks.{markCount, marksOf}
@@ -8,12 +9,13 @@ use Rattle.pack.specs.declared.check.Checked.the-variants as checked
 use Rattle.pack.specs.Answers.{refusalNumber, refusalPlace}
 use Rattle.pack.specs.Question.{counted}
 use Rattle.pack.specs.Record.{linesOf}
+use Rattle.pack.specs.Table.{plain}
 use Rattle.engine.specs.declared.verdict.VerdictAnswer.{VerdictAnswer}
 use Rattle.engine.specs.declared.verdict.VerdictAnswer.the-variants as verdict
-use Rattle.engine.specs.Verdict.{askVerdict}
+use Rattle.engine.specs.Verdict.{tooLong, follows, askVerdict}
 use Rattle.reasons.specs.declared.set.SetAnswer.{SetAnswer}
 use Rattle.reasons.specs.declared.set.SetAnswer.the-variants as answer
-use Rattle.reasons.specs.OutMarks.{checkReason}
+use Rattle.reasons.specs.OutMarks.{checkReason, reasonTable}
 use Rattle.reasons.specs.Printed.{printed}
 
 -- the marks of the printed set
@@ -57,3 +59,8 @@ setValue (answer.Refused why) = refusalPlace why
 setValue answer.TooLong = 0
 setValue answer.NotFollows = 0
 setValue (answer.Count k) = k
+
+-- its rows: 1 to 5, 6 TOO LONG, 7 NOT FOLLOWS. Otherwise the number of records in the set comes back
+abbrev pub setTable : ℕ → ℕ → List ℕ → List ℕ → ℕ → ℕ → List ℕ → List (Bool × ℕ)
+setTable n m s ws a b out =
+    reasonTable n m s ws a b (length out) ++ (plain (tooLong n m s ws) ∷ plain (not (follows n m s ws a b)) ∷ [])

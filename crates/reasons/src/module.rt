@@ -2,8 +2,10 @@
 ghost use mathlib.Core.Path.{_≡_};
 ghost use lib.ListN.{length};
 ghost use Rattle.marks.specs.Marks.{markCount};
+ghost use Rattle.pack.specs.Answers.{checkedNumber, checkedValue};
+ghost use Rattle.pack.specs.Table.{Given};
 ghost use Rattle.reasons.specs.Names.{TakenOf};
-ghost use Rattle.reasons.specs.Module.{moduleMarks, askModule, writtenModule};
+ghost use Rattle.reasons.specs.Module.{moduleMarks, askModule, writtenModule, moduleTable};
 use crate::out::check_reason;
 use crate::reach::unreached;
 use marks::change::marks_without;
@@ -46,7 +48,8 @@ pub fn module_for<'a>(
     a: usize,
     out: &mut [u64],
 ) -> Checked
-    ensures { λ r. ⌜ (r ≡ askModule n m (now (pack .entry)) (now (marks .entry)) a (now (out .entry))) × (now (out .exit) ≡ writtenModule n m (now (pack .entry)) (now (marks .entry)) a (now (out .entry))) ⌝ }
+    ensures answer { λ r. ⌜ (r ≡ askModule n m (now (pack .entry)) (now (marks .entry)) a (now (out .entry))) × (now (out .exit) ≡ writtenModule n m (now (pack .entry)) (now (marks .entry)) a (now (out .entry))) ⌝ }
+    ensures table { λ r. ⌜ Given (checkedNumber r) (checkedValue r) (markCount (moduleMarks n m (now (pack .entry)) (now (marks .entry)) a)) (moduleTable n m (now (pack .entry)) (now (marks .entry)) a (now (out .entry))) ⌝ }
 {
     let checked = check_reason(n, m, pack, marks, a, a, out.len());
     match checked {

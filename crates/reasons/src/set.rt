@@ -1,12 +1,14 @@
 // The printed set: numbers 1 to 7 of document 01's table, else the set in the out marks and the number of its records.
 ghost use mathlib.Core.Path.{_≡_};
 ghost use lib.ListN.{length};
+ghost use Rattle.marks.specs.Marks.{markCount};
 ghost use Rattle.pack.specs.Question.{counted, Taken};
 ghost use Rattle.pack.specs.Record.{linesOf};
+ghost use Rattle.pack.specs.Table.{Given};
 ghost use Rattle.pack.specs.World.{Follows};
 ghost use Rattle.engine.specs.declared.verdict.VerdictAnswer.the-variants as verdict;
 ghost use Rattle.engine.specs.Verdict.{askVerdict};
-ghost use Rattle.reasons.specs.Set.{setMarks, setAfter, setOut, askSet, writtenSet};
+ghost use Rattle.reasons.specs.Set.{setMarks, setAfter, setOut, askSet, writtenSet, setNumber, setValue, setTable};
 use crate::halve::pick;
 use crate::module::module_of;
 use crate::out::check_reason;
@@ -88,7 +90,8 @@ pub fn printed_set<'a>(
     b: usize,
     out: &mut [u64],
 ) -> SetAnswer
-    ensures { λ r. ⌜ (r ≡ askSet n m (now (pack .entry)) (now (marks .entry)) a b (now (out .entry))) × (now (out .exit) ≡ writtenSet n m (now (pack .entry)) (now (marks .entry)) a b (now (out .entry))) ⌝ }
+    ensures answer { λ r. ⌜ (r ≡ askSet n m (now (pack .entry)) (now (marks .entry)) a b (now (out .entry))) × (now (out .exit) ≡ writtenSet n m (now (pack .entry)) (now (marks .entry)) a b (now (out .entry))) ⌝ }
+    ensures table { λ r. ⌜ Given (setNumber r) (setValue r) (markCount (setMarks n m (now (pack .entry)) (now (marks .entry)) a b)) (setTable n m (now (pack .entry)) (now (marks .entry)) a b (now (out .entry))) ⌝ }
 {
     let checked = check_reason(n, m, pack, marks, a, b, out.len());
     match checked {

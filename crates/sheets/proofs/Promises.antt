@@ -5,7 +5,9 @@ use Prim.Native.Nat.{ℕ}
 use Rattle.bits.proofs.Promises.{no-second}
 use Rattle.yes.specs.declared.check.YesAnswer.{YesAnswer}
 use Rattle.no.specs.declared.check.NoAnswer.{NoAnswer}
-use Rattle.sheets.specs.Answers.{yesNumber, yesPlace, noNumber, noPlace, code}
+use Rattle.yes.specs.Answers.{yesNumber, yesPlace}
+use Rattle.no.specs.Answers.{noNumber, noPlace}
+use Rattle.sheets.specs.Answers.{code}
 use Rattle.sheets.specs.Calls.{yesCode, noCode}
 
 pub yes-call-fixed : (n m : ℕ) (s marks : List ℕ) (a b : ℕ) (sheet : List ℕ) (r r′ : ℕ) → r ≡ yesCode n m s marks a b sheet → r′ ≡ yesCode n m s marks a b sheet → r ≡ r′

@@ -4,7 +4,9 @@ use Prim.Native.Nat.{ℕ}
 use Rattle.pack.specs.Bytes.{marksIn}
 use Rattle.yes.specs.YesSheet.{checkYes}
 use Rattle.no.specs.NoSheet.{checkNo}
-use Rattle.sheets.specs.Answers.{yesNumber, yesPlace, noNumber, noPlace, code}
+use Rattle.yes.specs.Answers.{yesNumber, yesPlace}
+use Rattle.no.specs.Answers.{noNumber, noPlace}
+use Rattle.sheets.specs.Answers.{code}
 
 unfoldable pub yesCode : ℕ → ℕ → List ℕ → List ℕ → ℕ → ℕ → List ℕ → ℕ
 yesCode n m s marks a b sheet =

@@ -1,6 +1,8 @@
 // What the checks answer, as a number of document 01's table plus 16 times the place, step or row.
 ghost use mathlib.Core.Path.{_≡_};
-ghost use Rattle.sheets.specs.Answers.{yesNumber, yesPlace, noNumber, noPlace, code};
+ghost use Rattle.yes.specs.Answers.{yesNumber, yesPlace};
+ghost use Rattle.no.specs.Answers.{noNumber, noPlace};
+ghost use Rattle.sheets.specs.Answers.{code};
 use no::check::NoAnswer;
 use pack::check::refusal_number;
 use pack::check::refusal_place;

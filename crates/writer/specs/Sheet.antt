@@ -1,8 +1,8 @@
 -- What the sheet writer answers, and what the lent sheet holds afterwards.
 use mathlib.Core.Bool.{Bool, cond}
-use mathlib.Core.List.{List, _++_, map, flatten}
+use mathlib.Core.List.{List, [], _∷_, _++_, map, flatten}
 use Prim.Native.Nat.{ℕ, _*_}
-use lib.Dec.{leb}
+use lib.Dec.{leb, ltb}
 use lib.ListN.{length, drop}
 use Rattle.pack.specs.declared.check.Checked.{Checked}
 use Rattle.pack.specs.declared.check.Checked.the-variants as checked
@@ -10,6 +10,7 @@ use Rattle.pack.specs.Answers.{refusalNumber, refusalPlace}
 use Rattle.pack.specs.Bytes.{wordsBytes}
 use Rattle.pack.specs.Question.{counted, checkQuestion}
 use Rattle.pack.specs.Record.{linesOf}
+use Rattle.pack.specs.Table.{plain, others, questionTable}
 use Rattle.passes.specs.Ours.{ourSteps, ourRows}
 use Rattle.sweep.specs.Writing.{stepBytes}
 use Rattle.engine.specs.Verdict.{tooLong, follows}
@@ -73,3 +74,9 @@ sheetValue answer.TooLong = 0
 sheetValue (answer.NoRoom k) = k
 sheetValue (answer.Follows k) = k
 sheetValue (answer.Not k) = k
+
+-- 1 to 5, 6 TOO LONG, 8 NO ROOM with the bytes needed; 7 is the set's. Otherwise the number of steps or rows comes back
+abbrev pub sheetTable : ℕ → ℕ → List ℕ → List ℕ → ℕ → ℕ → List ℕ → List (Bool × ℕ)
+sheetTable n m s ws a b sheet =
+    questionTable n m s ws a b
+    ++ (plain (tooLong n m s ws) ∷ others ∷ (ltb (length sheet) (length (ourSheet n m s ws a b)), 8 * ourParts n m s ws a b) ∷ [])

@@ -7,9 +7,10 @@ ghost use lib.Dec.{leb};
 ghost use lib.ListN.{length, drop};
 ghost use Rattle.pack.specs.Question.{counted, Taken};
 ghost use Rattle.pack.specs.Record.{linesOf};
+ghost use Rattle.pack.specs.Table.{Given};
 ghost use Rattle.passes.specs.Ours.{ourSteps};
 ghost use Rattle.engine.specs.Verdict.{follows};
-ghost use Rattle.writer.specs.Sheet.{sheetAnswer, sheetOut, askSheet, writtenSheet};
+ghost use Rattle.writer.specs.Sheet.{ourParts, sheetAnswer, sheetOut, askSheet, writtenSheet, sheetNumber, sheetValue, sheetTable};
 ghost use Rattle.writer.specs.Inner.{rowsBytes, rowIn};
 use engine::verdict::settle;
 use pack::bytes::write_word;
@@ -170,7 +171,8 @@ pub fn write_sheet<'a>(
     b: usize,
     sheet: &mut [u8],
 ) -> SheetAnswer
-    ensures { λ r. ⌜ (r ≡ askSheet n m (now (pack .entry)) (now (marks .entry)) a b (now (sheet .entry))) × (now (sheet .exit) ≡ writtenSheet n m (now (pack .entry)) (now (marks .entry)) a b (now (sheet .entry))) ⌝ }
+    ensures answer { λ r. ⌜ (r ≡ askSheet n m (now (pack .entry)) (now (marks .entry)) a b (now (sheet .entry))) × (now (sheet .exit) ≡ writtenSheet n m (now (pack .entry)) (now (marks .entry)) a b (now (sheet .entry))) ⌝ }
+    ensures table { λ r. ⌜ Given (sheetNumber r) (sheetValue r) (ourParts n m (now (pack .entry)) (now (marks .entry)) a b) (sheetTable n m (now (pack .entry)) (now (marks .entry)) a b (now (sheet .entry))) ⌝ }
 {
     let checked = check_question(n, m, pack, marks, a, b);
     match checked {

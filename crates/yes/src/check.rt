@@ -4,7 +4,9 @@ ghost use Prim.Native.Nat.{_≤_};
 ghost use lib.ListN.{length};
 ghost use Rattle.pack.specs.Record.{linesOf};
 ghost use Rattle.pack.specs.Question.{counted, Taken};
+ghost use Rattle.pack.specs.Table.{Given};
 ghost use Rattle.yes.specs.YesSheet.{checkSteps, checkYes};
+ghost use Rattle.yes.specs.Answers.{yesNumber, yesPlace, yesTable};
 use crate::step::check_step;
 use pack::check::Checked;
 use pack::check::Refusal;
@@ -87,7 +89,8 @@ pub fn check_yes<'a>(
     b: usize,
     sheet: &'a [u8],
 ) -> YesAnswer
-    ensures { λ r. ⌜ r ≡ checkYes n m (now (pack .entry)) (now (marks .entry)) a b (now (sheet .entry)) ⌝ }
+    ensures answer { λ r. ⌜ r ≡ checkYes n m (now (pack .entry)) (now (marks .entry)) a b (now (sheet .entry)) ⌝ }
+    ensures table { λ r. ⌜ Given (yesNumber r) (yesPlace r) 0 (yesTable n m (now (pack .entry)) (now (marks .entry)) a b (now (sheet .entry))) ⌝ }
 {
     let checked = check_question(n, m, pack, marks, a, b);
     match checked {

@@ -12,7 +12,7 @@ checked-code-requires c κs = search needs
 
 returns : tie.Need-returns
 unfolding packCode
-returns c = rw (c .before .check-pack .ensures) at (c .checked-code .ensures)
+returns c = rw (c .before .check-pack .ensures .0) at (c .checked-code .ensures)
 
 pub noolukask-check-pack-spec : {M : Type 1} → statement M
 noolukask-check-pack-spec = tie.close (tie.spec check-pack-requires checked-code-requires returns)

@@ -11,7 +11,7 @@ returns c = question-unread _ _ _ _ _ _ (c .unread-code .ensures) (c .before .if
 
 returns-2 : tie.Need-returns-2
 unfolding questionCode
-returns-2 c = rw (eq-eqb _ _ (c .before .before .before .before .if1 .left)) (rw (c .before .check-question .ensures, c .before .before .before .read-marks .ensures) at (c .checked-code .ensures))
+returns-2 c = rw (eq-eqb _ _ (c .before .before .before .before .if1 .left)) (rw (c .before .check-question .ensures .0, c .before .before .before .read-marks .ensures) at (c .checked-code .ensures))
 
 pub noolukask-check-question-spec : {M : Type 1} → statement M
 noolukask-check-question-spec =

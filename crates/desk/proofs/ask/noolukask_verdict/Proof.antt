@@ -11,7 +11,7 @@ returns c = verdict-unread _ _ _ _ _ _ (c .unread-code .ensures) (c .before .if1
 
 returns-2 : tie.Need-returns-2
 unfolding verdictCode
-returns-2 c = rw (eq-eqb _ _ (c .before .before .before .before .if1 .left)) (rw (c .before .verdict .ensures, c .before .before .before .read-marks .ensures) at (c .verdict-code .ensures))
+returns-2 c = rw (eq-eqb _ _ (c .before .before .before .before .if1 .left)) (rw (c .before .verdict .ensures .0, c .before .before .before .read-marks .ensures) at (c .verdict-code .ensures))
 
 pub noolukask-verdict-spec : {M : Type 1} → statement M
 noolukask-verdict-spec =

@@ -12,7 +12,7 @@ returns c = sheet-unread _ _ _ _ _ _ (c .unread-code .ensures) (c .before .if1 .
 returns-2 : tie.Need-returns-2
 unfolding sheetCode
 returns-2 c =
-    let w = c .before .before .before .write-sheet .ensures in
+    let w = c .before .before .before .write-sheet .ensures .0 in
     let words = c .before .before .before .before .before .before .read-marks .ensures in
     let e = eq-eqb _ _ (c .before .before .before .before .before .before .before .if1 .left) in
     (rw e (rw (w .0, words) at (c .sheet-code .ensures)), rw e (rw words at (w .1)))

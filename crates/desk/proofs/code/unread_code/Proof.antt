@@ -13,7 +13,7 @@ checked-code-requires : tie.Need-checked-code-requires
 checked-code-requires c κs = search needs
 
 returns : tie.Need-returns
-returns c = rw (c .before .check-question .ensures) at (c .checked-code .ensures)
+returns c = rw (c .before .check-question .ensures .0) at (c .checked-code .ensures)
 
 pub unread-code-spec : {M : Type 1} → statement M
 unread-code-spec =

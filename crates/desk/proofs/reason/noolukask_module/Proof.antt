@@ -25,7 +25,7 @@ module-code-requires c κs = (search needs, lengths (c .before .before .before .
 
 returns-2 : tie.Need-returns-2
 returns-2 c =
-    let found = c .before .before .before .before .before .before .module-for .ensures in
+    let found = c .before .before .before .before .before .before .module-for .ensures .0 in
     let words = c .before .before .before .before .before .before .before .before .before .read-marks .ensures in
     let code = c .before .before .module-code .ensures in
     let both = lengths (c .before .before .before .before .before .before .before .before .before .before) in

@@ -25,7 +25,7 @@ set-code-requires c κs = (search needs, lengths (c .before .before .before .bef
 
 returns-2 : tie.Need-returns-2
 returns-2 c =
-    let found = c .before .before .before .before .before .before .printed-set .ensures in
+    let found = c .before .before .before .before .before .before .printed-set .ensures .0 in
     let words = c .before .before .before .before .before .before .before .before .before .read-marks .ensures in
     let code = c .before .before .set-code .ensures in
     let both = lengths (c .before .before .before .before .before .before .before .before .before .before) in

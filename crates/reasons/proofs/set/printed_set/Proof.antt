@@ -2,6 +2,7 @@
 use mathlib.Core.Path.{sym, _∙_}
 use borrow.Author.Needs.{needs}
 use Rattle.reasons.proofs.OutLaws.{reason-taken}
+use Rattle.reasons.proofs.GivenLaws.{set-told}
 use Rattle.reasons.proofs.SetLaws.{set-refused, set-asked}
 use Rattle.reasons.proofs.set.printed_set.Statement.{statement}
 use Rattle.reasons.proofs.set.printed_set.Tie as tie
@@ -19,14 +20,14 @@ returns : tie.Need-returns
 returns c =
     let a = c .before .before .before .before .before .before .before .args in
     let t = set-refused _ _ _ (a .marks .now) (a .a) (a .b) (a .out .now) (sym (c .before .before .before .check-reason .ensures) ∙ c .before .checked .given .1) in
-    (sym (t .0), sym (t .1))
+    set-told (a .n) (a .m) (a .pack .now) (a .marks .now) (a .a) (a .b) (a .out .now) (sym (t .0), sym (t .1))
 
 returns-2 : tie.Need-returns-2
 returns-2 c =
     let a = c .before .before .before .before .before .before .before .before .before .before .args in
     let put = c .before .before .set-taken .ensures in
     let t = set-asked _ _ _ (a .marks .now) (a .a) (a .b) (a .out .now) (sym (c .before .before .before .before .before .before .check-reason .ensures) ∙ c .before .before .before .before .enum-told .given .1) in
-    (put .0 ∙ sym (t .0), rw (put .0) at (put .1) ∙ sym (t .1))
+    set-told (a .n) (a .m) (a .pack .now) (a .marks .now) (a .a) (a .b) (a .out .now) (put .0 ∙ sym (t .0), rw (put .0) at (put .1) ∙ sym (t .1))
 
 pub printed-set-spec : {M : Type 1} → statement M
 printed-set-spec =

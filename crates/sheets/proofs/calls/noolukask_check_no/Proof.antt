@@ -7,11 +7,11 @@ use Rattle.sheets.proofs.calls.noolukask_check_no.Tie as tie
 
 returns : tie.Need-returns
 unfolding noCode
-returns c = rw (eq-eqb _ _ (c .before .before .before .before .if1 .taken)) (rw (c .before .check-no .ensures, c .before .before .before .read-marks .ensures) at (c .no-code .ensures))
+returns c = rw (eq-eqb _ _ (c .before .before .before .before .if1 .taken)) (rw (c .before .check-no .ensures .0, c .before .before .before .read-marks .ensures) at (c .no-code .ensures))
 
 returns-2 : tie.Need-returns-2
 unfolding noCode
-returns-2 c = rw (ne-eqb _ _ (c .before .before .before .if1 .left)) (rw (c .before .check-no2 .ensures) at (c .no-code2 .ensures))
+returns-2 c = rw (ne-eqb _ _ (c .before .before .before .if1 .left)) (rw (c .before .check-no2 .ensures .0) at (c .no-code2 .ensures))
 
 pub noolukask-check-no-spec : {M : Type 1} → statement M
 noolukask-check-no-spec =

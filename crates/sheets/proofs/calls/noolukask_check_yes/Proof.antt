@@ -10,14 +10,14 @@ unfolding yesCode
 returns c =
     let read = c .before .before .before in
     let marks = eq-eqb _ _ (read .before .if1 .taken) in
-    let answer = rw (read .read-marks .ensures) at (c .before .check-yes .ensures) in
+    let answer = rw (read .read-marks .ensures) at (c .before .check-yes .ensures .0) in
     rw (marks, ← answer) (c .yes-code .ensures)
 
 returns-2 : tie.Need-returns-2
 unfolding yesCode
 returns-2 c =
     let no-marks = ne-eqb _ _ (c .before .before .before .if1 .left) in
-    rw (no-marks, ← c .before .check-yes2 .ensures) (c .yes-code2 .ensures)
+    rw (no-marks, ← c .before .check-yes2 .ensures .0) (c .yes-code2 .ensures)
 
 pub noolukask-check-yes-spec : {M : Type 1} → statement M
 noolukask-check-yes-spec =
