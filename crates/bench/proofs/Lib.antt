@@ -1,2 +1,3 @@
 -- Laws of the input.
 pub mod InputLaws
+pub mod PartsLaws

@@ -1,2 +1,3 @@
 -- What standard input asks.
 pub mod Input
+pub mod Parts

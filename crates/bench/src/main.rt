@@ -1,4 +1,8 @@
 // The bench program: a pack and one question record on standard input; the verdict, the module and the printed set, a line each, with everything marked.
+ghost use mathlib.Core.Path.{_≡_};
+ghost use Rattle.pack.specs.Question.{Taken};
+ghost use Rattle.writer.specs.Sheet.{ourParts};
+
 mod input;
 mod lines;
 
@@ -19,15 +23,10 @@ use reasons::set::printed_set;
 use writer::write::SheetAnswer;
 use writer::write::write_sheet;
 
-// The steps or rows of our sheet: what a sheet of no bytes would need. A refusal is not asked about: the verdict came first.
-fn sheet_parts<'a>(
-    n: usize,
-    m: usize,
-    pack: &'a [u8],
-    marks: &'a [u64],
-    a: usize,
-    b: usize,
-) -> u32 {
+// The steps or rows of our sheet, where the question is taken: what the writer says that a sheet of no bytes would need.
+fn sheet_parts<'a>(n: usize, m: usize, pack: &'a [u8], marks: &'a [u64], a: usize, b: usize) -> u32
+    ensures { λ r. ⌜ (Taken n m (now (pack .entry)) (now (marks .entry)) a b → r ≡ ourParts n m (now (pack .entry)) (now (marks .entry)) a b) ⌝ }
+{
     let mut none = [0u8; 0];
     let answer = write_sheet(n, m, pack, marks, a, b, &mut none);
     match answer {
