@@ -4,19 +4,21 @@
  * What is handed over
  *   n       how many concept numbers there are, 1 to 64: concepts are 0 to n-1
  *   m       how many roles there are, 0 to 8: roles are 0 to m-1
- *   pack    records of 8 bytes, 0 to 1,024 of them, no header: the kind, three
- *           bytes, a, b, c in this table, and a little-endian statement number of
- *           any value
- *             kind 1   A under B             a = A,  b = B,  c = 0
- *             kind 2   A1 and A2 under B     a = A1, b = A2, c = B
- *             kind 3   A under some r B      a = A,  b = r,  c = B
- *             kind 4   some r A under B      a = r,  b = A,  c = B
- *             kind 5   r under s             a = r,  b = s,  c = 0
- *             kind 6   r then s under t      a = r,  b = s,  c = t
+ *   pack    records of 8 bytes, 0 to 1,024 of them, no header: the kind in byte 0, what
+ *           this table says in bytes 1 to 3, and in bytes 4 to 7 a little-endian
+ *           statement number of any value
+ *             kind   meaning              bytes 1, 2, 3
+ *             1      A under B            A,  B,  0
+ *             2      A1 and A2 under B    A1, A2, B
+ *             3      A under some r B     A,  r,  B
+ *             4      some r A under B     r,  A,  B
+ *             5      r under s            r,  s,  0
+ *             6      r then s under t     r,  s,  t
  *   marks   128 bytes: 16 little-endian words of 64 bits; record i counts when
  *           bit i mod 64 of word i div 64 is set, that is bit i mod 8 of byte
  *           i div 8; no bit at or above the record count may be set
- *   a, b    the goal: concept a under concept b; they may be equal
+ *   a, b    the two concepts of the goal, whatever A and B a record has: is a under b?
+ *           They may be equal
  *   sheet   to a check what somebody offers as the answer, to the writer the buffer
  *           for ours; see below
  *   out     128 bytes of marks that a call writes, whatever they held before
@@ -26,6 +28,8 @@
  * noolukask_write_sheet is lent and the out marks of noolukask_module and
  * noolukask_printed_set; these may share no byte with pack or marks. A pointer may be
  * NULL where its length is 0. Calls may run side by side.
+ *
+ * The calls stand in two archives, libsheets.a and libdesk.a, both for x86-64.
  */
 #ifndef NOOLUKASK_H
 #define NOOLUKASK_H
@@ -83,7 +87,7 @@ uint64_t noolukask_verdict(uint64_t n, uint64_t m,
  * the bytes needed (a buffer of length 0 asks for the room; an empty sheet, for a equal
  * to b, needs none and is written at once); else the value is
  * 2 * steps + 1 for a yes sheet and 2 * rows for a no sheet, of 8 bytes a step or row.
- * Where a number comes back, no byte of the buffer was changed. */
+ * Where a number of the table comes back, no byte of the buffer was changed. */
 uint64_t noolukask_write_sheet(uint64_t n, uint64_t m,
                                const uint8_t *pack, size_t pack_len,
                                const uint8_t *marks, size_t marks_len,
@@ -93,8 +97,8 @@ uint64_t noolukask_write_sheet(uint64_t n, uint64_t m,
 /* The module for concept a: the marked records that any reason for "a under .." can use.
  * Numbers 1 to 5, MARKS also for out that is not 128 bytes; else all 128 bytes of out
  * are set to the marks of the module, as marks has them, and the value is the number of
- * records that they mark. What out held before is not judged. Where a number comes
- * back, no byte of out was changed. */
+ * records that they mark. What out held before is not judged. Where a number of the
+ * table comes back, no byte of out was changed. */
 uint64_t noolukask_module(uint64_t n, uint64_t m,
                           const uint8_t *pack, size_t pack_len,
                           const uint8_t *marks, size_t marks_len,
