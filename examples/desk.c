@@ -3,12 +3,13 @@
  *
  * gcc -Iinclude examples/desk.c target/staticlib/libsheets.a target/staticlib/libdesk.a
  */
+#include "guarded.h"
+
 #include <stdbool.h>
 #include <stdio.h>
 #include <stdlib.h>
 #include <string.h>
 
-#include "guarded.h"
 #include "noolukask.h"
 
 /* Five concepts, two roles; the goal: is valve repair, 0, a heart procedure, 1? */

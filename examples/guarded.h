@@ -1,8 +1,13 @@
 /* Buffers that end where readable memory ends: whoever reads or writes one byte past the end of
- * one is stopped at once.
+ * one is stopped at once. Include it before any other header.
  */
 #ifndef GUARDED_H
 #define GUARDED_H
+
+/* For MAP_ANONYMOUS, which -std=c11 leaves out. */
+#ifndef _DEFAULT_SOURCE
+#define _DEFAULT_SOURCE
+#endif
 
 #include <stddef.h>
 #include <stdint.h>

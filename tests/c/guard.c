@@ -1,11 +1,11 @@
 /* The guard of examples/guarded.h really stops whoever goes past the end, and nobody else. */
+#include "guarded.h"
+
 #include <signal.h>
 #include <stdbool.h>
 #include <string.h>
 #include <sys/wait.h>
 #include <unistd.h>
-
-#include "guarded.h"
 
 enum { STOPPED = 7 };
 
