@@ -2,13 +2,6 @@
 
 use crate::rules::*;
 
-/// "x in b" or "x r y", over concept numbers.
-#[derive(Clone, Copy)]
-enum Fact {
-    In(u8, u8),
-    Link(u8, u8, u8),
-}
-
 /// The facts that are free or concluded so far.
 struct Facts {
     n: usize,

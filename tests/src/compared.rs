@@ -4,11 +4,10 @@
 use crate::calls::{self, filled};
 use crate::packs::{marks, places};
 use crate::reasons::{self, only};
-use crate::rules::{desk_code, show, Question, Refused};
+use crate::rules::{desk_answer, desk_code, show, Question, Refused, NOT_FOLLOWS};
 
 const FOLLOWS: u64 = 256;
 const NOT: u64 = 0;
-const NOT_FOLLOWS: u64 = 7;
 
 /// What comes back, and what out marks that held `before` hold then.
 fn expected(found: Result<Vec<usize>, Refused>, before: &[u8]) -> (u64, Vec<u8>) {
@@ -18,36 +17,35 @@ fn expected(found: Result<Vec<usize>, Refused>, before: &[u8]) -> (u64, Vec<u8>)
     }
 }
 
-/// The module call on any question and any out marks: the number of the table, 0 for none.
-pub fn ask_module(q: &Question, before: &[u8]) -> u64 {
+/// The module call on any question and any out marks: how many records there are, or the refusal.
+pub fn ask_module(q: &Question, before: &[u8]) -> Result<u64, Refused> {
     let found = reasons::module_taken(q, before.len()).map(|()| reasons::module(q));
     let got = calls::module(q, before);
     assert_eq!(got, expected(found, before), "module, {} bytes of out marks\n{}", before.len(), show(q));
-    got.0 % 256
+    desk_answer(got.0)
 }
 
 /// The set call on any question and any out marks; the set by deletion.
-pub fn ask_set(q: &Question, before: &[u8]) -> u64 {
+pub fn ask_set(q: &Question, before: &[u8]) -> Result<u64, Refused> {
     let found = reasons::set_taken(q, before.len());
     let found = found.map(|()| reasons::printed(q).expect("the goal follows"));
     let got = calls::printed_set(q, before);
     assert_eq!(got, expected(found, before), "set, {} bytes of out marks\n{}", before.len(), show(q));
-    got.0 % 256
+    desk_answer(got.0)
 }
 
 /// The places of the module for `q.a`; nothing is refused.
 pub fn module(q: &Question) -> Vec<usize> {
-    assert_eq!(ask_module(q, &filled(128)), 0, "{}", show(q));
+    assert!(ask_module(q, &filled(128)).is_ok(), "{}", show(q));
     reasons::module(q)
 }
 
 /// The places of the printed set, tried by verdicts, if the goal follows; nothing else is refused.
 pub fn set(q: &Question) -> Option<Vec<usize>> {
-    let number = ask_set(q, &filled(128));
-    if number == NOT_FOLLOWS {
-        return None;
+    match ask_set(q, &filled(128)) {
+        Err(NOT_FOLLOWS) => return None,
+        back => assert!(back.is_ok(), "{back:?}\n{}", show(q)),
     }
-    assert_eq!(number, 0, "{}", show(q));
     let set = places(&calls::printed_set(q, &filled(128)).1);
     minimal(q, &set);
     Some(set)

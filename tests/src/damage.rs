@@ -1,7 +1,8 @@
 //! Damage to questions (numbers 1 to 5 of the table) and to bytes.
 
+use crate::packs;
 use crate::rng::Rng;
-use crate::rules::{record, record_good, Question};
+use crate::rules::{record, record_at, record_good, Question, Refused, GOAL, MARKS, PACK, SIZES};
 
 type Fault = fn(&mut Rng, &mut Question);
 
@@ -76,6 +77,33 @@ fn goal(rng: &mut Rng, q: &mut Question) {
     }
 }
 
+/// Questions on the valve pack with several faults, made by hand, and the lowest number of each.
+pub fn several_at_once() -> Vec<(Question, Refused)> {
+    let mut list = Vec::new();
+    let mut q = packs::valve(5, 1);
+    list.push((q.clone(), GOAL));
+    q.marks[0] |= 0x40;
+    list.push((q.clone(), MARKS));
+    q.pack[17] = 2;
+    q.pack[40] = 9;
+    list.push((q.clone(), record_at(2)));
+    q.pack.extend([0; 3]);
+    list.push((q.clone(), PACK));
+    q.n = 65;
+    list.push((q, SIZES));
+    // Each later fault alone beside the sizes, and the lengths beside the goal.
+    list.push((Question { n: 0, ..packs::valve(0, 1) }, SIZES));
+    list.push((Question { m: 9, marks: vec![], ..packs::valve(0, 9) }, SIZES));
+    list.push((Question { pack: vec![7; 8200], marks: vec![], ..packs::valve(9, 9) }, PACK));
+    list.push((Question { marks: vec![0; 127], ..packs::valve(9, 9) }, MARKS));
+    // A bad record counts though it is not marked, and its lowest place though the goal is free.
+    let mut q = Question { marks: packs::marks([0]), ..packs::valve(3, 3) };
+    q.pack[32] = 0;
+    q.pack[40] = 7;
+    list.push((q, record_at(4)));
+    list
+}
+
 /// Another value for a byte: a bit turned, one more, one less, or any.
 pub fn byte(rng: &mut Rng, old: u8) -> u8 {
     match rng.below(4) {
@@ -114,8 +142,14 @@ pub fn lengths(rng: &mut Rng, sheet: &[u8]) -> Vec<Vec<u8>> {
 #[cfg(test)]
 mod tests {
     use super::*;
-    use crate::packs;
-    use crate::rules::check_question;
+    use crate::rules::{check_question, number};
+
+    #[test]
+    fn several_faults_give_the_lowest_number() {
+        for (q, expected) in several_at_once() {
+            assert_eq!(check_question(&q), Err(expected));
+        }
+    }
 
     #[test]
     fn each_fault_gives_its_number() {
@@ -125,8 +159,7 @@ mod tests {
             let (n, m, count) = (rng.between(1, 64), rng.between(0, 8), rng.below(20));
             let q = packs::random_question(&mut rng, n, m, count);
             for (i, q) in questions(&mut rng, &q)[..5].iter().enumerate() {
-                let number = check_question(q).map_or_else(|refused| refused.number, |_| 0);
-                seen[i][number as usize] += 1;
+                seen[i][number(check_question(q))] += 1;
             }
         }
         for (i, numbers) in seen.iter().enumerate() {

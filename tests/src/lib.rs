@@ -3,6 +3,7 @@
 //! the calls under test.
 
 pub mod calls;
+pub mod chains;
 pub mod checker;
 pub mod compared;
 pub mod damage;
@@ -13,5 +14,6 @@ pub mod reasons;
 pub mod rng;
 pub mod rules;
 pub mod runs;
+pub mod threads;
 pub mod trial;
 pub mod worlds;

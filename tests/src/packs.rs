@@ -40,6 +40,16 @@ pub fn question(n: u64, m: u64, records: &[[u8; 4]], a: u64, b: u64) -> Question
     Question { n, m, pack: pack(records), marks: marks(0..records.len()), a, b }
 }
 
+/// Record `1 0 0 0`, good for every n, so often that there are this many bytes.
+pub fn filler(len: usize) -> Vec<u8> {
+    (0..len).map(|i| u8::from(i % 8 == 0)).collect()
+}
+
+/// A pack of such records, none marked, and the goal (0,0).
+pub fn of_length(n: u64, m: u64, len: usize) -> Question {
+    Question { n, m, pack: filler(len), marks: marks([]), a: 0, b: 0 }
+}
+
 pub const VALVE: [[u8; 4]; 6] =
     [[3, 0, 0, 2], [3, 2, 1, 3], [6, 0, 1, 0], [4, 0, 3, 1], [1, 0, 4, 0], [1, 4, 1, 0]];
 
@@ -97,17 +107,26 @@ pub fn random_record(rng: &mut Rng, n: usize, m: usize) -> [u8; 4] {
     }
 }
 
-/// A good question of these sizes: statement numbers of any value, most records marked.
-pub fn random_question(rng: &mut Rng, n: usize, m: usize, count: usize) -> Question {
-    let mut bytes = Vec::with_capacity(8 * count);
-    for _ in 0..count {
-        bytes.extend(random_record(rng, n, m));
-        bytes.extend(rng.bytes(4));
-    }
-    let share = rng.pick(&[100, 100, 90, 50]);
-    let places: Vec<usize> = (0..count).filter(|_| rng.chance(share)).collect();
+/// Two concepts that differ.
+pub fn two_concepts(rng: &mut Rng, n: usize) -> (u64, u64) {
+    let (a, far) = (rng.below(n), rng.between(1, n - 1));
+    (a as u64, ((a + far) % n) as u64)
+}
+
+/// A good question of these records: statement numbers of any value, about so many of a hundred marked, any goal.
+pub fn stated(rng: &mut Rng, n: usize, m: usize, records: &[[u8; 4]], share: usize) -> Question {
+    let mut bytes = pack(records);
+    bytes.chunks_exact_mut(8).for_each(|record| record[4..].copy_from_slice(&rng.bytes(4)));
+    let places: Vec<usize> = (0..records.len()).filter(|_| rng.chance(share)).collect();
     let (a, b) = (rng.below(n) as u64, rng.below(n) as u64);
     Question { n: n as u64, m: m as u64, pack: bytes, marks: marks(places), a, b }
+}
+
+/// A good question of these sizes, most records marked.
+pub fn random_question(rng: &mut Rng, n: usize, m: usize, count: usize) -> Question {
+    let records: Vec<[u8; 4]> = (0..count).map(|_| random_record(rng, n, m)).collect();
+    let share = rng.pick(&[100, 100, 90, 50]);
+    stated(rng, n, m, &records, share)
 }
 
 /// A record over all 64 concepts and 8 roles, its kind drawn from these.
@@ -134,32 +153,61 @@ fn filling(rng: &mut Rng) -> Vec<[u8; 4]> {
     records
 }
 
-/// A question of n = 64 and m = 8: mostly sparse packs; long ones with few chains; long ones without
-/// links; full tables with few chains; and names from a few, as in small packs.
-pub fn large_question(rng: &mut Rng, shape: u64) -> Question {
+/// What a pack of n = 64 and m = 8 may look like.
+#[derive(Clone, Copy, PartialEq, Eq, Debug)]
+pub enum Shape {
+    /// Under 170 records, of every kind.
+    Sparse,
+    /// 1,024 records, few of them on roles alone.
+    Dense,
+    /// 100 to 1,024 records without links.
+    Unlinked,
+    /// Every link there can be, and few chains.
+    Full,
+    /// Under 120 records with names from a few, as in small packs.
+    Few,
+}
+
+pub const SHAPES: [Shape; 5] = [Shape::Sparse, Shape::Dense, Shape::Unlinked, Shape::Full, Shape::Few];
+
+impl Shape {
+    /// The shape of one pack in a run: of twenty packs most are sparse.
+    pub fn at(turn: u64) -> Shape {
+        match turn % 20 {
+            0..=12 => Shape::Sparse,
+            13 => Shape::Dense,
+            14 | 15 => Shape::Unlinked,
+            16 => Shape::Full,
+            _ => Shape::Few,
+        }
+    }
+}
+
+/// A question of n = 64 and m = 8.
+pub fn large_question(rng: &mut Rng, shape: Shape) -> Question {
     let mut records: Vec<[u8; 4]> = Vec::new();
     let mut more = |rng: &mut Rng, count: usize, kinds: &[u8]| {
         (0..count).for_each(|_| records.push(wide_record(rng, kinds)));
     };
-    match shape % 20 {
-        0..=12 => {
+    match shape {
+        Shape::Sparse => {
             let count = rng.below(170);
             more(rng, count, &[1, 1, 2, 3, 3, 4, 5, 6]);
         }
-        13 => {
+        Shape::Dense => {
             more(rng, 1018, &[1, 2, 3, 3, 3, 4]);
             more(rng, 6, &[5, 6]);
         }
-        14 | 15 => {
+        Shape::Unlinked => {
             let count = rng.between(100, 1024);
             more(rng, count, &[1, 2, 2, 2]);
         }
-        16 => {
+        Shape::Full => {
             let count = rng.below(12);
             more(rng, count, &[1, 2, 4, 6]);
             records.extend(filling(rng));
         }
-        _ => {
+        Shape::Few => {
             let count = rng.below(120);
             return random_question(rng, 64, 8, count);
         }

@@ -2,8 +2,8 @@
 //! definition 3. A printed set is found by deletion or among all subsets, and a given one is judged.
 
 use crate::packs::{marks, places};
-use crate::reasoner::{closure, passes, Fact};
-use crate::rules::{check_question, record, Question, Record, Refused, MARKS, NOT_FOLLOWS};
+use crate::reasoner::{closure, passes};
+use crate::rules::{check_question, record, Fact, Question, Record, Refused, MARKS, NOT_FOLLOWS};
 use std::collections::BTreeSet;
 use Name::{Concept, Role};
 

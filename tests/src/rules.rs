@@ -16,7 +16,7 @@ pub fn show(q: &Question) -> String {
     format!("n {} m {} goal ({},{})\npack {:02x?}\nmarks {:02x?}", q.n, q.m, q.a, q.b, q.pack, q.marks)
 }
 
-/// A number of the table, and the place, step or row that it gives (0 where it gives none).
+/// A number of the table, and the place, step, row or bytes that it gives (0 where it gives none).
 #[derive(Clone, Copy, PartialEq, Eq, Debug)]
 pub struct Refused {
     pub number: u64,
@@ -34,6 +34,9 @@ pub const NOT_SHOWN: Refused = Refused { number: 13, place: 0 };
 pub fn record_at(place: usize) -> Refused {
     Refused { number: 3, place: place as u64 }
 }
+pub fn no_room(bytes: usize) -> Refused {
+    Refused { number: 8, place: bytes as u64 }
+}
 pub fn step_at(step: usize) -> Refused {
     Refused { number: 10, place: step as u64 }
 }
@@ -42,6 +45,14 @@ pub fn row_at(row: usize) -> Refused {
 }
 pub fn broken_at(place: usize) -> Refused {
     Refused { number: 12, place: place as u64 }
+}
+
+/// A checked sheet is accepted.
+pub const ACCEPTED: Result<(), Refused> = Ok(());
+
+/// The number of the table, 0 where nothing is refused.
+pub fn number<T>(result: Result<T, Refused>) -> usize {
+    result.map_or_else(|refused| refused.number as usize, |_| 0)
 }
 
 /// What the two sheet calls return: 0, or the number plus 16 times the place.
@@ -58,6 +69,29 @@ pub fn desk_code(result: Result<u64, Refused>) -> u64 {
         Ok(value) => 256 * value,
         Err(refused) => refused.number + 256 * refused.place,
     }
+}
+
+/// A sheet call's answer from what it returned.
+pub fn sheet_answer(back: u64) -> Result<(), Refused> {
+    match back {
+        0 => Ok(()),
+        _ => Err(Refused { number: back % 16, place: back / 16 }),
+    }
+}
+
+/// Another call's answer from what it returned: the value, or the refusal.
+pub fn desk_answer(back: u64) -> Result<u64, Refused> {
+    match back % 256 {
+        0 => Ok(back / 256),
+        number => Err(Refused { number, place: back / 256 }),
+    }
+}
+
+/// "x in b" is `In(x, b)` and "x r y" is `Link(x, r, y)`, over concept numbers.
+#[derive(Clone, Copy, PartialEq, Eq, PartialOrd, Ord, Debug)]
+pub enum Fact {
+    In(u8, u8),
+    Link(u8, u8, u8),
 }
 
 /// The first four bytes of a record; the statement number is not read.
@@ -170,5 +204,8 @@ mod tests {
         assert_eq!(sheet_code(Err(step_at(3))), 10 + 48);
         assert_eq!(desk_code(Ok(6)), 0x600);
         assert_eq!(desk_code(Err(record_at(1))), 0x103);
+        // And back.
+        assert_eq!([sheet_answer(0), sheet_answer(10 + 48)], [Ok(()), Err(step_at(3))]);
+        assert_eq!([desk_answer(0x600), desk_answer(0x103)], [Ok(6), Err(record_at(1))]);
     }
 }

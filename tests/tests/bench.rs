@@ -1,10 +1,10 @@
 //! The bench program, run as a process with the pack and the question record on standard input. What it prints
 //! is compared with document 01's own lines and with those that the independent side gives.
 
-use noolukask_tests::packs::{self, marks, pack, VALVE};
+use noolukask_tests::packs::{self, marks, pack, Shape, VALVE};
 use noolukask_tests::rng::Rng;
 use noolukask_tests::rules::{check_question, Question, Refused, PACK, SIZES};
-use noolukask_tests::{reasoner, reasons, runs};
+use noolukask_tests::{chains, reasoner, reasons, runs};
 use std::io::Write;
 use std::process::{Command, Stdio};
 use std::time::Duration;
@@ -32,7 +32,8 @@ fn run_on(pieces: &[&[u8]]) -> String {
     }
     drop(input);
     let output = program.wait_with_output().expect("the program ends");
-    assert!(output.status.code().is_some(), "the program was stopped: {}", output.status);
+    // A refusal is an answer too.
+    assert_eq!(output.status.code(), Some(0), "{}", output.status);
     assert!(output.stderr.is_empty(), "{}", String::from_utf8_lossy(&output.stderr));
     String::from_utf8(output.stdout).expect("text")
 }
@@ -162,11 +163,7 @@ fn sizes() {
 
 #[test]
 fn lengths() {
-    // Record 1 0 0 0, so often that the pack has this many bytes.
-    let of_length = |len: usize, sizes| {
-        let pack: Vec<u8> = (0..len).map(|i| u8::from(i % 8 == 0)).collect();
-        input(&pack, sizes)
-    };
+    let of_length = |len: usize, sizes| input(&packs::filler(len), sizes);
     for len in [1, 7, 9, 8191] {
         assert_eq!(bench(&of_length(len, [64, 8, 0, 0])), "refused 2\n");
         // The length before the goal; the sizes before the length.
@@ -224,13 +221,11 @@ fn random_questions() {
     let mut rng = Rng::new(71);
     let mut follow = 0;
     for i in 0..60 {
-        let (n, m, count) = match i % 6 {
-            0 => (64, 8, rng.below(60)),
-            _ => (rng.between(1, 6), rng.between(0, 3), rng.below(13)),
+        let mut q = match i % 6 {
+            0 => packs::large_question(&mut rng, Shape::Few),
+            _ => chains::small_question(&mut rng, 50),
         };
-        let mut q = packs::random_question(&mut rng, n, m, count);
-        q.marks = marks(0..count);
-        reasoner::passes(&q).draw_goal(&mut rng, &mut q);
+        q.marks = marks(0..q.pack.len() / 8);
         follow += usize::from(bench_question(&q).starts_with("follows"));
     }
     println!("counts: bench on 60 random packs: {follow} goals follow");

@@ -2,29 +2,19 @@
 //! byte of every buffer, and what both sheet checks say to the sheets.
 
 use noolukask_tests::calls::filled;
-use noolukask_tests::packs::{self, marks, question, rows, steps, VALVE};
-use noolukask_tests::reasoner::{self, Answer, Fact, Passes};
+use noolukask_tests::packs::{self, marks, question, rows, steps, Shape, VALVE};
+use noolukask_tests::reasoner::{self, Answer, Passes};
 use noolukask_tests::rng::Rng;
-use noolukask_tests::rules::{self, desk_code, sheet_code, show, Question};
-use noolukask_tests::trial::two_threads;
-use noolukask_tests::{calls, checker, damage, runs};
+use noolukask_tests::rules::{
+    self, desk_code, no_room, sheet_answer, show, Fact, Question, Refused, ACCEPTED, GOAL, MARKS, NOT_SHOWN, PACK,
+    SIZES,
+};
+use noolukask_tests::threads::{self, on_two_threads};
+use noolukask_tests::{calls, chains, checker, damage, runs};
 
 const SMALL_PACKS: u64 = 100_000;
 const LARGE_PACKS: u64 = 2_000;
 
-const SIZES: u64 = 1;
-const PACK: u64 = 2;
-const MARKS: u64 = 4;
-const GOAL: u64 = 5;
-const ACCEPTED: u64 = 0;
-const NOT_SHOWN: u64 = 13;
-
-fn record_at(place: u64) -> u64 {
-    3 + 256 * place
-}
-fn no_room(bytes: usize) -> u64 {
-    8 + 256 * bytes as u64
-}
 /// The verdict's number.
 fn verdict(follows: bool) -> u64 {
     256 * u64::from(follows)
@@ -51,7 +41,7 @@ fn settle(q: &Question, run: &Passes, more: usize, less: usize) -> Answer {
         for room in [len - 1, less % len] {
             let before = filled(room);
             let (back, after) = calls::write_sheet(q, &before);
-            assert_eq!(back, no_room(len), "room {room}\n{}", show(q));
+            assert_eq!(back, desk_code(Err(no_room(len))), "room {room}\n{}", show(q));
             assert!(after == before, "touched without room\n{}", show(q));
         }
     }
@@ -62,22 +52,31 @@ fn settle(q: &Question, run: &Passes, more: usize, less: usize) -> Answer {
 /// The sheet of the true sort is accepted. The other check accepts neither the same bytes nor the best sheet
 /// of its own sort: the finished world for a goal that follows, all steps for one that does not.
 fn through_both_checks(q: &Question, run: &Passes, ours: &Answer) {
-    let (yes, no) = (calls::check_yes(q, &ours.sheet), calls::check_no(q, &ours.sheet));
+    let (yes, no) = (yes_check(q, &ours.sheet), no_check(q, &ours.sheet));
     if ours.follows {
         assert_eq!(yes, ACCEPTED, "{}", show(q));
-        assert_eq!(no, sheet_code(checker::check_no(q, &ours.sheet)));
+        assert_eq!(no, checker::check_no(q, &ours.sheet));
         assert_ne!(no, ACCEPTED, "{}", show(q));
-        assert_eq!(calls::check_no(q, &run.world()), NOT_SHOWN, "{}", show(q));
+        assert_eq!(no_check(q, &run.world()), Err(NOT_SHOWN), "{}", show(q));
     } else {
         assert_eq!(no, ACCEPTED, "{}", show(q));
-        assert_eq!(yes, sheet_code(checker::check_yes(q, &ours.sheet)));
+        assert_eq!(yes, checker::check_yes(q, &ours.sheet));
         assert_ne!(yes, ACCEPTED, "{}", show(q));
-        assert_eq!(calls::check_yes(q, &run.all_steps()), NOT_SHOWN, "{}", show(q));
+        assert_eq!(yes_check(q, &run.all_steps()), Err(NOT_SHOWN), "{}", show(q));
     }
 }
 
+fn yes_check(q: &Question, sheet: &[u8]) -> Result<(), Refused> {
+    sheet_answer(calls::check_yes(q, sheet))
+}
+
+fn no_check(q: &Question, sheet: &[u8]) -> Result<(), Refused> {
+    sheet_answer(calls::check_no(q, sheet))
+}
+
 /// Both calls refuse a question with this number, and the buffer keeps every byte, whatever its length.
-fn refused(q: &Question, expected: u64) {
+fn refused(q: &Question, number: Refused) {
+    let expected = desk_code(Err(number));
     assert_eq!(calls::verdict(q), expected, "verdict\n{}", show(q));
     for room in [0, 7, 48, 640] {
         let before = filled(room);
@@ -115,6 +114,8 @@ fn no_rows(q: &Question) -> Vec<u64> {
 #[derive(Default)]
 struct Counts {
     packs: u64,
+    /// Goals with a = b, and of the others those that follow and those that do not.
+    free: u64,
     follow: u64,
     not: u64,
     by_meaning: [u64; 2],
@@ -129,16 +130,28 @@ impl Counts {
     fn answered(&mut self, run: &Passes, ours: &Answer) {
         self.passes = self.passes.max(run.count);
         self.facts = self.facts.max(run.added.len());
-        if ours.follows {
-            self.follow += 1;
-            self.steps = self.steps.max(ours.count);
-        } else {
-            self.not += 1;
+        self.steps = self.steps.max(if ours.follows { ours.count } else { 0 });
+        match (ours.follows, ours.count) {
+            (true, 0) => self.free += 1,
+            (true, _) => self.follow += 1,
+            (false, _) => self.not += 1,
         }
     }
 
+    fn print(&self, what: &str) {
+        println!(
+            "counts: engine on {} {what}: {} goals are free, {} follow, {} do not (by the meaning too: {}, {}); \
+             most passes {}, facts {}, steps {}; refused with 1 to 5: {:?}",
+            self.packs, self.free, self.follow, self.not, self.by_meaning[1], self.by_meaning[0],
+            self.passes, self.facts, self.steps, &self.refused[1..],
+        );
+    }
+}
+
+impl threads::Counts for Counts {
     fn join(mut self, other: Counts) -> Counts {
         self.packs += other.packs;
+        self.free += other.free;
         self.follow += other.follow;
         self.not += other.not;
         (0..2).for_each(|i| self.by_meaning[i] += other.by_meaning[i]);
@@ -148,29 +161,6 @@ impl Counts {
         self.steps = self.steps.max(other.steps);
         self
     }
-
-    fn print(&self, what: &str) {
-        println!(
-            "counts: engine on {} {what}: {} goals follow, {} do not (by the meaning too: {}, {}); \
-             most passes {}, facts {}, steps {}; refused with 1 to 5: {:?}",
-            self.packs, self.follow, self.not, self.by_meaning[1], self.by_meaning[0],
-            self.passes, self.facts, self.steps, &self.refused[1..],
-        );
-    }
-}
-
-/// Two threads, one seed each, half of the packs each.
-fn on_two_threads(packs: u64, seed: u64, one: fn(&mut Rng, u64, &mut Counts)) -> Counts {
-    let run = move |seed: u64| {
-        let (mut rng, mut counts) = (Rng::new(seed), Counts::default());
-        for i in 0..packs / 2 {
-            one(&mut rng, i, &mut counts);
-            counts.packs += 1;
-        }
-        counts
-    };
-    let (one, other) = two_threads(seed, run);
-    one.join(other)
 }
 
 /// The question with faults, through both calls.
@@ -178,7 +168,7 @@ fn with_faults(rng: &mut Rng, q: &Question, counts: &mut Counts) {
     for faulty in damage::questions(rng, q) {
         // A fault may fail to do damage.
         if let Err(number) = rules::check_question(&faulty) {
-            refused(&faulty, desk_code(Err(number)));
+            refused(&faulty, number);
             counts.refused[number.number as usize] += 1;
         }
     }
@@ -186,11 +176,9 @@ fn with_faults(rng: &mut Rng, q: &Question, counts: &mut Counts) {
 
 #[test]
 fn a_hundred_thousand_small_packs() {
-    let counts = on_two_threads(SMALL_PACKS, 41, |rng, i, counts| {
-        let (n, m, count) = (rng.between(1, 6), rng.between(0, 3), rng.below(13));
-        let mut q = packs::random_question(rng, n, m, count);
+    let counts = on_two_threads(41, Counts::default, |counts| counts.packs == SMALL_PACKS / 2, |rng, counts| {
+        let mut q = chains::small_question(rng, 40);
         let run = reasoner::passes(&q);
-        run.draw_goal(rng, &mut q);
         let ours = settle(&q, &run, rng.below(40), rng.below(1000));
         counts.answered(&run, &ours);
         let closed = reasoner::closure(&q);
@@ -199,7 +187,7 @@ fn a_hundred_thousand_small_packs() {
             assert_eq!(ours.follows, follows, "by the meaning\n{}", show(&q));
             counts.by_meaning[usize::from(follows)] += 1;
         }
-        if i % 40 == 0 {
+        if counts.packs % 40 == 0 {
             with_faults(rng, &q, counts);
             // Every goal of the pack, not only the one drawn.
             for (a, b) in (0..q.n).flat_map(|a| (0..q.n).map(move |b| (a, b))) {
@@ -209,6 +197,7 @@ fn a_hundred_thousand_small_packs() {
                 counts.answered(&run, &ours);
             }
         }
+        counts.packs += 1;
     });
     counts.print("small packs");
     assert_eq!(counts.packs, SMALL_PACKS);
@@ -219,19 +208,20 @@ fn a_hundred_thousand_small_packs() {
 
 #[test]
 fn two_thousand_large_packs() {
-    let counts = on_two_threads(LARGE_PACKS, 43, |rng, i, counts| {
-        let mut q = packs::large_question(rng, i);
+    let counts = on_two_threads(43, Counts::default, |counts| counts.packs == LARGE_PACKS / 2, |rng, counts| {
+        let mut q = packs::large_question(rng, Shape::at(counts.packs));
         let run = reasoner::passes(&q);
         run.draw_goal(rng, &mut q);
         let ours = settle(&q, &run, rng.below(5000), rng.below(300_000));
         counts.answered(&run, &ours);
-        if i % 21 == 0 {
+        if counts.packs % 21 == 0 {
             with_faults(rng, &q, counts);
             // Sets are too slow for full tables.
             if run.added.len() < 3000 {
                 assert!(run.facts() == reasoner::closure(&q), "{}", show(&q));
             }
         }
+        counts.packs += 1;
     });
     counts.print("packs of n = 64, m = 8");
     assert_eq!(counts.packs, LARGE_PACKS);
@@ -311,7 +301,7 @@ fn c6() {
     let expected = [0x13, 0x02, 0x04, 0x08, 0x12, 0x0C, 0, 0, 0, 0, 0, 0, 0x08, 0, 0];
     assert_eq!(calls::verdict(&q), 0);
     assert_eq!(calls::write_sheet(&q, &[7; 120]), (256 * 30, rows(&expected)));
-    assert_eq!(calls::write_sheet(&q, &[7; 119]), (no_room(120), vec![7; 119]));
+    assert_eq!(calls::write_sheet(&q, &[7; 119]), (desk_code(Err(no_room(120))), vec![7; 119]));
     assert_eq!(no_rows(&q), expected);
 }
 
@@ -380,20 +370,14 @@ fn every_goal_of_the_valve_pack() {
 
 // ---- Run only: sizes, lengths, the longest pack; and refusals ----
 
-/// Record `1 0 0 0`, good for every n, so often that the pack has this many bytes; none marked.
-fn of_length(n: u64, m: u64, len: usize) -> Question {
-    let pack = (0..len).map(|i| u8::from(i % 8 == 0)).collect();
-    Question { n, m, pack, marks: vec![0; 128], a: 0, b: 0 }
-}
-
 #[test]
 fn sizes_and_lengths() {
     for (n, m) in [(0, 0), (65, 0), (64, 9), (1, 9), (0, 9), ((1 << 32) + 5, 0), (5, 1 << 32), (u64::MAX, u64::MAX)] {
-        refused(&of_length(n, m, 8), SIZES);
+        refused(&packs::of_length(n, m, 8), SIZES);
     }
     for (n, m) in [(1, 0), (64, 0), (1, 8), (64, 8)] {
         for len in [0, 8, 8192] {
-            let q = of_length(n, m, len);
+            let q = packs::of_length(n, m, len);
             assert!(yes_steps(&q).is_empty());
             if n > 1 {
                 // Nothing holds but what is free.
@@ -402,7 +386,7 @@ fn sizes_and_lengths() {
             }
         }
         for len in [7, 9, 8191, 8193, 8200, 16384] {
-            refused(&of_length(n, m, len), PACK);
+            refused(&packs::of_length(n, m, len), PACK);
         }
     }
 }
@@ -432,32 +416,13 @@ fn every_single_mark() {
         assert_eq!(calls::write_sheet(&q, &[7; 8]), (0x300, sheet));
         // Not where the pack ends before it.
         let short = Question { pack: pack[..8 * place].to_vec(), ..q };
-        assert_eq!(calls::verdict(&short), MARKS);
-        assert_eq!(calls::write_sheet(&short, &[7; 8]), (MARKS, vec![7; 8]));
+        refused(&short, MARKS);
     }
 }
 
 #[test]
 fn of_several_faults_the_lowest_number() {
-    let mut q = packs::valve(5, 1);
-    refused(&q, GOAL);
-    q.marks[0] |= 0x40;
-    refused(&q, MARKS);
-    q.pack[17] = 2;
-    q.pack[40] = 9;
-    refused(&q, record_at(2));
-    q.pack.extend([0; 3]);
-    refused(&q, PACK);
-    q.n = 65;
-    refused(&q, SIZES);
-    refused(&Question { m: 9, marks: vec![], ..packs::valve(0, 9) }, SIZES);
-    refused(&Question { pack: vec![7; 8200], marks: vec![], ..packs::valve(9, 9) }, PACK);
-    refused(&Question { marks: vec![0; 127], ..packs::valve(9, 9) }, MARKS);
-    // A bad record counts though it is not marked, and its lowest place though the goal is free.
-    let mut q = Question { marks: marks([0]), ..packs::valve(3, 3) };
-    q.pack[32] = 0;
-    q.pack[40] = 7;
-    refused(&q, record_at(4));
+    damage::several_at_once().into_iter().for_each(|(q, number)| refused(&q, number));
 }
 
 #[test]
@@ -473,15 +438,6 @@ fn refused_goals_and_marks() {
 }
 
 #[test]
-fn null_is_fine_with_length_zero() {
-    assert_eq!(calls::decide_with_null(), [MARKS, MARKS]);
-    // A first call without a buffer asks for the room; a free goal needs none.
-    assert_eq!(calls::write_sheet_to_null(&packs::valve(0, 1)), no_room(32));
-    assert_eq!(calls::write_sheet_to_null(&packs::valve(2, 1)), no_room(120));
-    assert_eq!(calls::write_sheet_to_null(&packs::valve(2, 2)), written(true, 0));
-}
-
-#[test]
 fn every_length_of_a_buffer() {
     for (q, len) in [(packs::valve(0, 1), 32), (packs::valve(2, 1), 120), (packs::valve(2, 2), 0)] {
         let ours = answer(&q);
@@ -490,7 +446,7 @@ fn every_length_of_a_buffer() {
             let before = filled(room);
             let (back, after) = calls::write_sheet(&q, &before);
             if room < len {
-                assert_eq!((back, after), (no_room(len), before));
+                assert_eq!((back, after), (desk_code(Err(no_room(len))), before));
             } else {
                 assert_eq!(back, written(ours.follows, ours.count));
                 assert_eq!(after, [&ours.sheet[..], &before[len..]].concat());
@@ -683,23 +639,23 @@ fn a_rejected_yes_sheet_is_no_proof_of_no() {
     let q = packs::valve(0, 1);
     let good = calls::write_sheet(&q, &[0; 32]).1;
     for bad in [&[][..], &good[..24], &good[8..], &good[..31], &[&good[..], &[9; 8]].concat()] {
-        assert_ne!(calls::check_yes(&q, bad), ACCEPTED);
-        assert_ne!(calls::check_no(&q, bad), ACCEPTED);
+        assert_ne!(yes_check(&q, bad), ACCEPTED);
+        assert_ne!(no_check(&q, bad), ACCEPTED);
         assert_eq!(calls::verdict(&q), 256);
         // The writer does not read what the buffer holds, a rejected sheet included.
         let before = [bad, &vec![1; 40 - bad.len()]].concat();
         assert_eq!(calls::write_sheet(&q, &before), (written(true, 4), [&good[..], &before[32..]].concat()));
     }
-    assert_eq!(calls::check_no(&q, &packs::valve_no_sheet()), NOT_SHOWN);
+    assert_eq!(no_check(&q, &packs::valve_no_sheet()), Err(NOT_SHOWN));
     // Goal (2,1) does not follow; a rejected no sheet is no proof of yes either.
     let q = packs::valve(2, 1);
     let good = calls::write_sheet(&q, &[0; 120]).1;
     for bad in [&[][..], &good[8..], &good[..112], &[0; 120]] {
-        assert_ne!(calls::check_no(&q, bad), ACCEPTED);
-        assert_ne!(calls::check_yes(&q, bad), ACCEPTED);
+        assert_ne!(no_check(&q, bad), ACCEPTED);
+        assert_ne!(yes_check(&q, bad), ACCEPTED);
         assert_eq!(calls::verdict(&q), 0);
     }
-    assert_eq!(calls::check_no(&q, &good), ACCEPTED);
+    assert_eq!(no_check(&q, &good), ACCEPTED);
 }
 
 #[test]
@@ -756,7 +712,7 @@ fn every_fact_there_can_be() {
     assert!(ours.follows);
     // n·n - n + m·n·n.
     assert_eq!(ours.count, 36_800);
-    assert_eq!(calls::write_sheet_to_null(&q), no_room(294_400));
+    assert_eq!(calls::write_sheet_to_null(&q), desk_code(Err(no_room(294_400))));
     assert_eq!(ours.sheet[8 * 36_799..], steps(&[[637, 62, 0, 0]]));
     // Without the last record the same tables stay open at one place a thing.
     let less = Question { marks: marks(0..637), ..q };

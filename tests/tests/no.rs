@@ -2,38 +2,22 @@
 
 use noolukask_tests::packs::{self, rows};
 use noolukask_tests::rng::Rng;
-use noolukask_tests::rules::Question;
-use noolukask_tests::trial::{on_two_threads, Trial};
+use noolukask_tests::rules::{
+    broken_at, number, row_at, sheet_answer, Question, Refused, ACCEPTED, GOAL, LENGTH, NOT_SHOWN,
+};
+use noolukask_tests::trial::{Check, Trial};
 use noolukask_tests::{calls, checker, damage, worlds};
 
-const SHEETS: u64 = 1_000_000;
-const ACCEPTED: u64 = 0;
-const LENGTH: u64 = 9;
-const NOT_SHOWN: u64 = 13;
-
-fn row_at(row: u64) -> u64 {
-    11 + 16 * row
-}
-fn broken_at(place: u64) -> u64 {
-    12 + 16 * place
-}
+const CHECK: Check = Check { what: "no check", call: calls::check_no, checker: checker::check_no };
 
 /// What the no check gives, after comparing it with the clear checker.
-fn no(q: &Question, sheet: &[u8]) -> u64 {
-    Trial::new("no check", calls::check_no, checker::check_no).sheet(q, sheet)
+fn no(q: &Question, sheet: &[u8]) -> Result<(), Refused> {
+    CHECK.answer(q, sheet)
 }
 
 #[test]
 fn a_million_sheets() {
-    let trial = on_two_threads(SHEETS, |seed, sheets| {
-        let mut rng = Rng::new(seed);
-        let mut trial = Trial::new("no check", calls::check_no, checker::check_no);
-        while trial.total() < sheets {
-            one_world(&mut rng, &mut trial);
-        }
-        trial
-    });
-    trial.report(&[0, 1, 2, 3, 4, 5, 9, 11, 12, 13], &[3, 11, 12]);
+    CHECK.a_million(one_world).report(&[0, 1, 2, 3, 4, 5, 9, 11, 12, 13], &[3, 11, 12]);
 }
 
 /// One pack and one world that obeys it, and every sort of damage to them.
@@ -50,10 +34,7 @@ fn one_world(rng: &mut Rng, t: &mut Trial) {
     };
     let mut q = packs::random_question(rng, n, m, count);
     let world = if n <= 8 && rng.chance(15) {
-        // The finished tables of the rules: one thing a concept.
-        let mut world = worlds::free(&q);
-        world.close(rng, &q, Some(usize::from));
-        world
+        worlds::finished(&q)
     } else {
         let (concepts, links) = (rng.pick(&[3, 10, 30]), rng.pick(&[0, 3, 10, 30]));
         let mut world = worlds::random(rng, &q, k, concepts, links);
@@ -67,21 +48,16 @@ fn one_world(rng: &mut Rng, t: &mut Trial) {
     }
     let sheet = world.sheet();
     t.sheet(&q, &sheet);
-    other_questions(rng, t, &q, &sheet);
-    other_bytes(rng, t, &q, &sheet, if large { 40 } else { 120 });
+    t.other_questions(rng, &q, &sheet);
+    t.other_bytes(rng, &q, &sheet, if large { 40 } else { 120 });
+    other_sizes_and_marks(rng, t, &q, &sheet);
+    other_things(rng, t, &q, &sheet);
     other_rows(rng, t, &q, &sheet, world.k);
     random_sheets(rng, t, &q);
 }
 
-/// The good sheet with another goal, other sizes, other marks, a damaged pack.
-fn other_questions(rng: &mut Rng, t: &mut Trial, q: &Question, sheet: &[u8]) {
-    for faulty in damage::questions(rng, q) {
-        t.sheet(&faulty, sheet);
-    }
-    for _ in 0..4 {
-        let (a, b) = (rng.below(q.n as usize) as u64, rng.below(q.n as usize) as u64);
-        t.sheet(&Question { a, b, ..q.clone() }, sheet);
-    }
+/// The good sheet with other sizes and other marks.
+fn other_sizes_and_marks(rng: &mut Rng, t: &mut Trial, q: &Question, sheet: &[u8]) {
     for m in 0..=8 {
         t.sheet(&Question { m, ..q.clone() }, sheet);
     }
@@ -91,24 +67,10 @@ fn other_questions(rng: &mut Rng, t: &mut Trial, q: &Question, sheet: &[u8]) {
         other.marks[place / 8] ^= 1 << (place % 8);
         t.sheet(&other, sheet);
     }
-    for i in damage::places(rng, q.pack.len(), 24) {
-        let mut other = q.clone();
-        other.pack[i] = damage::byte(rng, other.pack[i]);
-        t.sheet(&other, sheet);
-    }
 }
 
-/// Each byte damaged; cut short; made longer.
-fn other_bytes(rng: &mut Rng, t: &mut Trial, q: &Question, sheet: &[u8], most: usize) {
-    let mut copy = sheet.to_vec();
-    for i in damage::places(rng, sheet.len(), most) {
-        copy[i] = damage::byte(rng, copy[i]);
-        t.sheet(q, &copy);
-        copy[i] = sheet[i];
-    }
-    for other in damage::lengths(rng, sheet) {
-        t.sheet(q, &other);
-    }
+/// A thing more, a thing less, and things in nothing.
+fn other_things(rng: &mut Rng, t: &mut Trial, q: &Question, sheet: &[u8]) {
     let a_thing = 8 * (1 + q.m as usize);
     t.sheet(q, &[sheet, &vec![0; a_thing]].concat());
     t.sheet(q, &sheet[a_thing..]);
@@ -166,10 +128,10 @@ fn random_sheets(rng: &mut Rng, t: &mut Trial, q: &Question) {
 #[test]
 fn c12() {
     let q = packs::question(2, 0, &[[1, 0, 1, 0]], 0, 1);
-    assert_eq!(no(&q, &[0, 0, 0, 0, 0, 0, 0, 0]), NOT_SHOWN);
-    assert_eq!(no(&q, &[1, 0, 0, 0, 0, 0, 0, 0]), broken_at(0));
-    assert_eq!(no(&q, &[3, 0, 0, 0, 0, 0, 0, 0]), NOT_SHOWN);
-    assert_eq!(no(&q, &[4, 0, 0, 0, 0, 0, 0, 0]), row_at(0));
+    assert_eq!(no(&q, &[0, 0, 0, 0, 0, 0, 0, 0]), Err(NOT_SHOWN));
+    assert_eq!(no(&q, &[1, 0, 0, 0, 0, 0, 0, 0]), Err(broken_at(0)));
+    assert_eq!(no(&q, &[3, 0, 0, 0, 0, 0, 0, 0]), Err(NOT_SHOWN));
+    assert_eq!(no(&q, &[4, 0, 0, 0, 0, 0, 0, 0]), Err(row_at(0)));
     assert_eq!(no(&Question { a: 1, b: 0, ..q }, &[2, 0, 0, 0, 0, 0, 0, 0]), ACCEPTED);
 }
 
@@ -177,7 +139,7 @@ fn c12() {
 fn c2_and_c6() {
     let q = packs::question(2, 0, &[], 0, 1);
     assert_eq!(no(&q, &rows(&[1, 2])), ACCEPTED);
-    assert_eq!(no(&q, &rows(&[3, 2])), NOT_SHOWN);
+    assert_eq!(no(&q, &rows(&[3, 2])), Err(NOT_SHOWN));
     let sheet = packs::valve_no_sheet();
     assert_eq!(sheet.len(), 8 * 15);
     assert_eq!(no(&packs::valve(2, 1), &sheet), ACCEPTED);
@@ -187,21 +149,21 @@ fn c2_and_c6() {
         sheet[8 * row] = value;
         no(&packs::valve(2, 1), &sheet)
     };
-    assert_eq!(changed(12, 0), broken_at(1));
+    assert_eq!(changed(12, 0), Err(broken_at(1)));
     // A link to thing 5, which is not there.
-    assert_eq!(changed(12, 0x28), row_at(12));
-    assert_eq!(changed(5, 0x04), broken_at(2));
-    assert_eq!(changed(0, 0x11), broken_at(3));
-    assert_eq!(changed(4, 0x10), broken_at(5));
-    assert_eq!(changed(2, 0x06), NOT_SHOWN);
+    assert_eq!(changed(12, 0x28), Err(row_at(12)));
+    assert_eq!(changed(5, 0x04), Err(broken_at(2)));
+    assert_eq!(changed(0, 0x11), Err(broken_at(3)));
+    assert_eq!(changed(4, 0x10), Err(broken_at(5)));
+    assert_eq!(changed(2, 0x06), Err(NOT_SHOWN));
 }
 
 #[test]
 fn a_goal_that_is_free_is_never_refuted() {
     let q = packs::question(1, 0, &[], 0, 0);
-    assert_eq!(no(&q, &[]), LENGTH);
-    assert_eq!(no(&q, &rows(&[1])), NOT_SHOWN);
-    assert_eq!(no(&packs::valve(0, 0), &packs::valve_no_sheet()), NOT_SHOWN);
+    assert_eq!(no(&q, &[]), Err(LENGTH));
+    assert_eq!(no(&q, &rows(&[1])), Err(NOT_SHOWN));
+    assert_eq!(no(&packs::valve(0, 0), &packs::valve_no_sheet()), Err(NOT_SHOWN));
 }
 
 #[test]
@@ -210,9 +172,9 @@ fn lengths_for_every_m() {
         let q = Question { m: m as u64, ..packs::question(2, 0, &[], 0, 1) };
         for words in 0..=66 * (1 + m) {
             let possible = words % (1 + m) == 0 && (1..=64).contains(&(words / (1 + m)));
-            let expected = if possible { NOT_SHOWN } else { LENGTH };
+            let expected = if possible { Err(NOT_SHOWN) } else { Err(LENGTH) };
             assert_eq!(no(&q, &vec![0; 8 * words]), expected, "{words} rows, m {m}");
-            assert_eq!(no(&q, &vec![0; 8 * words + 1]), LENGTH);
+            assert_eq!(no(&q, &vec![0; 8 * words + 1]), Err(LENGTH));
         }
     }
 }
@@ -226,7 +188,7 @@ fn every_forbidden_bit_of_every_row() {
                 let mut words = vec![0u64; k * (1 + m)];
                 words[row] = 1 << bit;
                 let end = if row < k { n } else { k };
-                let expected = if bit < end { NOT_SHOWN } else { row_at(row as u64) };
+                let expected = if bit < end { Err(NOT_SHOWN) } else { Err(row_at(row)) };
                 assert_eq!(no(&q, &rows(&words)), expected);
             }
         }
@@ -237,16 +199,16 @@ fn every_forbidden_bit_of_every_row() {
 fn a_row_comes_before_a_broken_record_and_that_before_the_goal() {
     let mut sheet = packs::valve_no_sheet();
     let q = packs::valve(0, 1);
-    assert_eq!(no(&q, &sheet), NOT_SHOWN);
+    assert_eq!(no(&q, &sheet), Err(NOT_SHOWN));
     sheet[8 * 4] = 0x10;
-    assert_eq!(no(&q, &sheet), broken_at(5));
+    assert_eq!(no(&q, &sheet), Err(broken_at(5)));
     sheet[8 * 14] = 0x20;
-    assert_eq!(no(&q, &sheet), row_at(14));
+    assert_eq!(no(&q, &sheet), Err(row_at(14)));
     sheet[8 * 9 + 7] = 0x80;
-    assert_eq!(no(&q, &sheet), row_at(9));
+    assert_eq!(no(&q, &sheet), Err(row_at(9)));
     sheet.pop();
-    assert_eq!(no(&q, &sheet), LENGTH);
-    assert_eq!(no(&packs::valve(0, 5), &sheet), 5);
+    assert_eq!(no(&q, &sheet), Err(LENGTH));
+    assert_eq!(no(&packs::valve(0, 5), &sheet), Err(GOAL));
 }
 
 #[test]
@@ -263,20 +225,19 @@ fn broken_records_of_each_kind_and_only_marked_ones() {
     for (record, breaks, obeys) in cases {
         // A record before it that every world obeys; the goal is refuted by some thing in 0.
         let mut q = packs::question(3, 3, &[[1, 0, 0, 0], record], 0, 1);
-        assert_eq!(no(&q, &rows(&breaks)), broken_at(1), "{record:?}");
+        assert_eq!(no(&q, &rows(&breaks)), Err(broken_at(1)), "{record:?}");
         let mended = no(&q, &rows(&obeys));
         assert_eq!(mended, ACCEPTED, "{record:?}");
         q.marks = packs::marks([0]);
-        assert!(no(&q, &rows(&breaks)) % 16 != 12);
+        assert!(number(no(&q, &rows(&breaks))) != 12);
     }
 }
 
 #[test]
 fn sizes_and_the_longest_pack() {
     let one = |n: u64, m: u64, len: usize| {
-        let pack = (0..len).map(|i| u8::from(i % 8 == 0)).collect();
         let sheet = rows(&vec![1; 1 + m as usize]);
-        no(&Question { n, m, pack, marks: vec![0; 128], a: 0, b: n.min(64).saturating_sub(1) }, &sheet)
+        number(no(&Question { b: n.min(64).saturating_sub(1), ..packs::of_length(n, m, len) }, &sheet))
     };
     assert_eq!([one(0, 0, 0), one(65, 0, 0), one(64, 0, 0), one(1, 0, 0)], [1, 1, 0, 13]);
     assert_eq!([one(64, 8, 0), one(64, 9, 0), one((1 << 32) + 5, 0, 0)], [0, 1, 1]);
@@ -288,9 +249,9 @@ fn sizes_and_the_longest_pack() {
         (words[0], words[63]) = (first, second);
         rows(&words)
     };
-    assert_eq!(no(&q, &world(1, 1)), broken_at(1023));
-    assert_eq!(no(&q, &world(3, 1)), broken_at(1023));
-    assert_eq!(no(&q, &world(3, 3)), NOT_SHOWN);
+    assert_eq!(no(&q, &world(1, 1)), Err(broken_at(1023)));
+    assert_eq!(no(&q, &world(3, 1)), Err(broken_at(1023)));
+    assert_eq!(no(&q, &world(3, 3)), Err(NOT_SHOWN));
     assert_eq!(no(&Question { a: 1, b: 0, ..q }, &world(2, 3)), ACCEPTED);
 }
 
@@ -303,6 +264,6 @@ fn a_rejected_no_sheet_is_no_proof_of_yes() {
     broken[8 * 12] = 0;
     let rejected = [no(&q, &[]), no(&q, &broken), no(&q, &good[..24])];
     assert!(rejected.iter().all(|&back| back != ACCEPTED), "{rejected:?}");
-    assert_eq!(calls::check_yes(&q, &packs::valve_yes_sheet()), NOT_SHOWN);
+    assert_eq!(sheet_answer(calls::check_yes(&q, &packs::valve_yes_sheet())), Err(NOT_SHOWN));
     assert_eq!(no(&q, &good), ACCEPTED);
 }

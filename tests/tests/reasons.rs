@@ -3,26 +3,18 @@
 
 use noolukask_tests::calls::filled;
 use noolukask_tests::compared::{ask_module, ask_set, minimal, module, set};
-use noolukask_tests::packs::{self, marks, places, question, valve, VALVE};
-use noolukask_tests::reasons::{self, follows_by_passes, only};
+use noolukask_tests::packs::{self, marks, places, question, valve, Shape, SHAPES, VALVE};
+use noolukask_tests::reasons::{self, only};
 use noolukask_tests::rng::Rng;
-use noolukask_tests::rules::{show, Question};
-use noolukask_tests::trial::two_threads;
-use noolukask_tests::{calls, damage, reasoner, runs};
+use noolukask_tests::rules::{
+    desk_code, number, record, show, Question, Refused, GOAL, MARKS, NOT_FOLLOWS, PACK, SIZES,
+};
+use noolukask_tests::threads::{self, on_two_threads};
+use noolukask_tests::{calls, chains, damage, reasoner, runs, worlds};
 
 const SMALL_PACKS: u64 = 20_000;
 const LARGE_PACKS: u64 = 300;
-const SUBSETS: u64 = 200_000;
-
-const SIZES: u64 = 1;
-const PACK: u64 = 2;
-const MARKS: u64 = 4;
-const GOAL: u64 = 5;
-const NOT_FOLLOWS: u64 = 7;
-
-fn record_at(place: u64) -> u64 {
-    3 + 256 * place
-}
+const SUBSETS: u64 = 2_000_000;
 
 /// Lengths that out marks may not have.
 const LENGTHS: [usize; 9] = [0, 1, 8, 64, 120, 127, 129, 136, 256];
@@ -33,66 +25,65 @@ const LENGTHS: [usize; 9] = [0, 1, 8, 64, 120, 127, 129, 136, 256];
 #[derive(Default)]
 struct Counts {
     packs: u64,
-    sets: u64,
+    /// The empty sets of free goals, and sets of one, two, three and more records.
+    sizes: [u64; 5],
+    /// How many sets have a record of kinds 1 to 6.
+    kinds: [u64; 6],
     /// How often each number came back.
     numbers: [u64; 8],
     /// The most records of each in one answer.
     module: usize,
     set: usize,
     subsets: u64,
+    /// For large packs: how many sets there were of each shape.
+    shapes: [u64; 5],
 }
 
 impl Counts {
-    fn answered(&mut self, module: &[usize], set: Option<&[usize]>) {
+    fn answered(&mut self, q: &Question, module: &[usize], set: Option<&[usize]>) {
         self.module = self.module.max(module.len());
-        match set {
-            Some(set) => {
-                self.sets += 1;
-                self.set = self.set.max(set.len());
-            }
-            None => self.numbers[NOT_FOLLOWS as usize] += 1,
+        let Some(set) = set else {
+            self.numbers[7] += 1;
+            return;
+        };
+        self.set = self.set.max(set.len());
+        self.sizes[set.len().min(4)] += 1;
+        for kind in 1..=6 {
+            let has = set.iter().any(|&place| record(&q.pack, place).kind == kind);
+            self.kinds[usize::from(kind) - 1] += u64::from(has);
         }
     }
 
+    /// Over so many sets have three records or more, and over so many have a record of each kind.
+    fn assert_varied(&self, long: u64, each_kind: u64) {
+        assert!(self.sizes[3] + self.sizes[4] > long, "{:?}", self.sizes);
+        assert!(self.kinds.iter().all(|&times| times > each_kind), "{:?}", self.kinds);
+    }
+
+    fn print(&self, what: &str) {
+        println!(
+            "counts: reasons on {} {what}: sets of 0, 1, 2, 3 and more records {:?}, the largest of {}; with \
+             kinds 1 to 6 {:?}; the largest module of {}; refused with 1 to 7 {:?}; subsets asked {}; by shape {:?}",
+            self.packs, self.sizes, self.set, self.kinds, self.module, &self.numbers[1..], self.subsets, self.shapes,
+        );
+    }
+}
+
+impl threads::Counts for Counts {
     fn join(mut self, other: Counts) -> Counts {
+        fn add<const N: usize>(to: &mut [u64; N], more: [u64; N]) {
+            to.iter_mut().zip(more).for_each(|(to, more)| *to += more);
+        }
         self.packs += other.packs;
-        self.sets += other.sets;
-        (0..8).for_each(|i| self.numbers[i] += other.numbers[i]);
+        add(&mut self.sizes, other.sizes);
+        add(&mut self.kinds, other.kinds);
+        add(&mut self.numbers, other.numbers);
+        add(&mut self.shapes, other.shapes);
         self.module = self.module.max(other.module);
         self.set = self.set.max(other.set);
         self.subsets += other.subsets;
         self
     }
-
-    fn print(&self, what: &str) {
-        println!(
-            "counts: reasons on {} {what}: {} sets, the largest of {}; the largest module of {}; \
-             refused with 1 to 7: {:?}; subsets asked: {}",
-            self.packs, self.sets, self.set, self.module, &self.numbers[1..], self.subsets,
-        );
-    }
-}
-
-/// Two threads, one seed each, until each has done its half.
-fn on_two_threads(seed: u64, done: fn(&Counts) -> bool, one: fn(&mut Rng, &mut Counts)) -> Counts {
-    let run = move |seed: u64| {
-        let (mut rng, mut counts) = (Rng::new(seed), Counts::default());
-        while !done(&counts) {
-            one(&mut rng, &mut counts);
-            counts.packs += 1;
-        }
-        counts
-    };
-    let (one, other) = two_threads(seed, run);
-    one.join(other)
-}
-
-/// A small question, often with a goal that follows.
-fn small_question(rng: &mut Rng, most: usize) -> Question {
-    let (n, m, count) = (rng.between(1, 6), rng.between(0, 3), rng.below(most + 1));
-    let mut q = packs::random_question(rng, n, m, count);
-    reasoner::passes(&q).draw_goal(rng, &mut q);
-    q
 }
 
 /// The question and the question with faults, with random out marks of right and wrong lengths.
@@ -100,8 +91,8 @@ fn with_faults(rng: &mut Rng, q: &Question, counts: &mut Counts) {
     for faulty in damage::questions(rng, q).iter().chain([q]) {
         for len in [128, rng.pick(&LENGTHS)] {
             let before = rng.bytes(len);
-            counts.numbers[ask_module(faulty, &before) as usize] += 1;
-            counts.numbers[ask_set(faulty, &before) as usize] += 1;
+            counts.numbers[number(ask_module(faulty, &before))] += 1;
+            counts.numbers[number(ask_set(faulty, &before))] += 1;
         }
     }
 }
@@ -115,46 +106,53 @@ fn every_goal(q: &Question, counts: &mut Counts) {
             assert_eq!(calls::verdict(&only(&q, &module)), calls::verdict(&q), "{}", show(&q));
             let set = set(&q);
             assert!(a != b || set.as_deref() == Some(&[]), "{}", show(&q));
-            counts.answered(&module, set.as_deref());
+            counts.answered(&q, &module, set.as_deref());
         }
     }
 }
 
 #[test]
 fn twenty_thousand_small_packs() {
-    let counts = on_two_threads(61, |counts| counts.packs == SMALL_PACKS / 2, |rng, counts| {
-        let q = small_question(rng, 12);
-        counts.answered(&module(&q), set(&q).as_deref());
+    let counts = on_two_threads(61, Counts::default, |counts| counts.packs == SMALL_PACKS / 2, |rng, counts| {
+        let q = chains::small_question(rng, 80);
+        counts.answered(&q, &module(&q), set(&q).as_deref());
         if counts.packs % 50 == 0 {
             with_faults(rng, &q, counts);
             every_goal(&q, counts);
         }
+        counts.packs += 1;
     });
     counts.print("small packs");
     assert_eq!(counts.packs, SMALL_PACKS);
-    assert!(counts.sets > 8_000 && counts.numbers[7] > 8_000);
+    assert!(counts.sizes[0] > 2_000 && counts.numbers[7] > 8_000);
+    counts.assert_varied(6_000, 1_500);
     assert!(counts.numbers[1..6].iter().all(|&times| times > 400) && counts.numbers[6] == 0);
 }
 
 #[test]
 fn all_subsets_of_up_to_twelve_records() {
-    let counts = on_two_threads(63, |counts| counts.subsets > SUBSETS / 2, |rng, counts| {
-        let most = rng.pick(&[4, 6, 8, 8, 10, 12]);
-        let q = small_question(rng, most);
+    let counts = on_two_threads(63, Counts::default, |counts| counts.subsets > SUBSETS / 2, |rng, counts| {
+        let q = chains::small_question(rng, 80);
         let set = set(&q);
         assert_eq!(set, reasons::printed_of_all(&q), "{}", show(&q));
-        counts.answered(&module(&q), set.as_deref());
+        counts.answered(&q, &module(&q), set.as_deref());
         counts.subsets += 1 << places(&q.marks).len();
+        counts.packs += 1;
     });
     counts.print("packs of up to 12 records");
-    assert!(counts.sets > 500 && counts.numbers[7] > 500);
+    assert!(counts.numbers[7] > 200);
+    counts.assert_varied(450, 100);
 }
 
 #[test]
 fn three_hundred_large_packs() {
-    let counts = on_two_threads(65, |counts| counts.packs == LARGE_PACKS / 2, |rng, counts| {
+    let counts = on_two_threads(65, Counts::default, |counts| counts.packs == LARGE_PACKS / 2, |rng, counts| {
         // A set of 1,024 dense records takes as long as a hundred others: few of them.
-        let shape = if counts.packs % 80 != 13 && counts.packs % 20 == 13 { 0 } else { counts.packs };
+        let shape = match Shape::at(counts.packs) {
+            Shape::Dense if counts.packs % 80 != 13 => Shape::Sparse,
+            shape => shape,
+        };
+        counts.packs += 1;
         let mut q = packs::large_question(rng, shape);
         let run = reasoner::passes(&q);
         run.draw_goal(rng, &mut q);
@@ -162,22 +160,21 @@ fn three_hundred_large_packs() {
         let before = rng.bytes(128);
         let (back, after) = calls::printed_set(&q, &before);
         if !run.answer(q.a, q.b).follows {
-            assert_eq!((back, after), (NOT_FOLLOWS, before), "{}", show(&q));
-            return counts.answered(&module, None);
+            assert_eq!((back, after), (desk_code(Err(NOT_FOLLOWS)), before), "{}", show(&q));
+            return counts.answered(&q, &module, None);
         }
         let set = places(&after);
         assert_eq!((back, after), (256 * set.len() as u64, marks(set.iter().copied())), "{}", show(&q));
         minimal(&q, &set);
         assert!(reasons::is_printed(&q, &set, |q| calls::verdict(q) == 256), "{set:?}\n{}", show(&q));
-        // The reasoner would take too long for every one.
-        if matches!(shape % 20, 0..=4 | 17..=19) || shape % 60 == 14 {
-            assert!(reasons::is_printed(&q, &set, follows_by_passes), "{set:?}\n{}", show(&q));
-        }
-        counts.answered(&module, Some(&set));
+        assert!(reasons::is_printed(&q, &set, worlds::follows), "{set:?}\n{}", show(&q));
+        counts.answered(&q, &module, Some(&set));
+        counts.shapes[SHAPES.iter().position(|&other| other == shape).expect("a shape")] += 1;
     });
     counts.print("packs of n = 64, m = 8");
     assert_eq!(counts.packs, LARGE_PACKS);
-    assert!(counts.sets > 100 && counts.numbers[7] > 50);
+    assert!(counts.numbers[7] > 50 && counts.shapes.iter().all(|&times| times > 2));
+    counts.assert_varied(60, 20);
 }
 
 // ---- Document 01's cases ----
@@ -255,9 +252,10 @@ fn every_goal_of_the_valve_pack() {
 
 /// Both calls refuse the question with this number, and out marks of any length keep every byte. Where a
 /// number above 4 would be given, another length of the out marks is MARKS.
-fn refused(q: &Question, number: u64) {
+fn refused(q: &Question, refusal: Refused) {
     for len in LENGTHS.into_iter().chain([128]) {
-        let expected = if len != 128 && number % 256 > MARKS { MARKS } else { number };
+        let late = len != 128 && refusal.number > MARKS.number;
+        let expected = desk_code(Err(if late { MARKS } else { refusal }));
         let before = filled(len);
         assert_eq!(calls::module(q, &before), (expected, before.clone()), "{len}\n{}", show(q));
         assert_eq!(calls::printed_set(q, &before), (expected, before), "{len}\n{}", show(q));
@@ -267,9 +265,7 @@ fn refused(q: &Question, number: u64) {
 #[test]
 fn sizes_and_lengths() {
     let of_length = |n: u64, m: u64, len: usize| {
-        // Record 1 0 0 0 is good for every n.
-        let pack = (0..len).map(|i| u8::from(i % 8 == 0)).collect();
-        Question { n, m, pack, marks: marks(0..(len / 8).min(1024)), a: 0, b: 0 }
+        Question { marks: marks(0..(len / 8).min(1024)), ..packs::of_length(n, m, len) }
     };
     for (n, m) in [(0, 0), (65, 8), (64, 9), (1, u64::MAX), ((1 << 32) + 5, 0), (5, 1 << 32)] {
         [0, 7, 8].iter().for_each(|&len| refused(&of_length(n, m, len), SIZES));
@@ -316,33 +312,13 @@ fn every_single_mark() {
         assert_eq!(calls::printed_set(&up_to, &[255; 128]), (0x100, one));
         // Not where the pack ends before it.
         let short = Question { pack: all.pack[..8 * place].to_vec(), ..q };
-        assert_eq!(calls::module(&short, &[7; 128]), (MARKS, vec![7; 128]));
-        assert_eq!(calls::printed_set(&short, &[7; 128]), (MARKS, vec![7; 128]));
+        refused(&short, MARKS);
     }
 }
 
 #[test]
 fn of_several_faults_the_lowest_number() {
-    // The goal (2,1) does not follow either.
-    let mut q = valve(7, 1);
-    refused(&q, GOAL);
-    q.marks[0] |= 0x40;
-    refused(&q, MARKS);
-    q.pack[17] = 2;
-    q.pack[40] = 9;
-    refused(&q, record_at(2));
-    q.pack.extend([0; 3]);
-    refused(&q, PACK);
-    q.n = 65;
-    refused(&q, SIZES);
-    refused(&Question { m: 9, marks: vec![], ..valve(9, 9) }, SIZES);
-    refused(&Question { pack: vec![7; 8200], marks: vec![], ..valve(9, 9) }, PACK);
-    refused(&Question { marks: vec![0; 127], ..valve(9, 9) }, MARKS);
-    // A bad record counts though it is not marked, and its lowest place.
-    let mut q = only(&valve(3, 3), &[0]);
-    q.pack[32] = 0;
-    q.pack[40] = 7;
-    refused(&q, record_at(4));
+    damage::several_at_once().into_iter().for_each(|(q, number)| refused(&q, number));
 }
 
 #[test]
@@ -355,13 +331,9 @@ fn marks_of_other_lengths() {
     }
     for len in (0..300).filter(|&len| len != 128).chain([1024, 8192]) {
         for q in [valve(0, 1), valve(1, 1), valve(2, 1), valve(5, 1)] {
-            let before = filled(len);
-            assert_eq!(calls::module(&q, &before), (MARKS, before.clone()));
-            assert_eq!(calls::printed_set(&q, &before), (MARKS, before));
+            assert_eq!([ask_module(&q, &filled(len)), ask_set(&q, &filled(len))], [Err(MARKS); 2]);
         }
     }
-    // NULL is fine with length 0, and of the wrong length.
-    assert_eq!(calls::reasons_to_null(&[0; 128]), [MARKS; 2]);
 }
 
 #[test]
@@ -371,18 +343,18 @@ fn goals() {
         // A module has one concept for its goal.
         let q = valve(2, far);
         assert_eq!(module(&q), [1]);
-        assert_eq!(ask_set(&q, &filled(128)), GOAL);
+        assert_eq!(ask_set(&q, &filled(128)), Err(GOAL));
     }
 }
 
 #[test]
 fn not_follows_comes_last() {
     for q in [valve(2, 1), only(&valve(0, 1), &[]), question(64, 8, &[], 63, 62)] {
-        assert_eq!(calls::printed_set(&q, &filled(128)), (NOT_FOLLOWS, filled(128)));
-        assert_eq!(calls::printed_set(&q, &[255; 128]), (NOT_FOLLOWS, vec![255; 128]));
-        assert_eq!(ask_set(&Question { b: q.n, ..q.clone() }, &filled(128)), GOAL);
-        assert_eq!(ask_set(&q, &filled(127)), MARKS);
-        assert_eq!(ask_set(&Question { m: 9, ..q }, &filled(128)), SIZES);
+        assert_eq!(calls::printed_set(&q, &filled(128)), (7, filled(128)));
+        assert_eq!(calls::printed_set(&q, &[255; 128]), (7, vec![255; 128]));
+        assert_eq!(ask_set(&Question { b: q.n, ..q.clone() }, &filled(128)), Err(GOAL));
+        assert_eq!(ask_set(&q, &filled(127)), Err(MARKS));
+        assert_eq!(ask_set(&Question { m: 9, ..q }, &filled(128)), Err(SIZES));
     }
 }
 

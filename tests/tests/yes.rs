@@ -2,35 +2,22 @@
 
 use noolukask_tests::packs::{self, steps};
 use noolukask_tests::rng::Rng;
-use noolukask_tests::rules::{marked, record, Question};
-use noolukask_tests::trial::{on_two_threads, Trial};
-use noolukask_tests::{calls, checker, damage, derive};
+use noolukask_tests::rules::{
+    marked, number, record, sheet_answer, step_at, Question, Refused, ACCEPTED, LENGTH, NOT_SHOWN,
+};
+use noolukask_tests::trial::{Check, Trial};
+use noolukask_tests::{calls, checker, derive};
 
-const SHEETS: u64 = 1_000_000;
-const ACCEPTED: u64 = 0;
-const LENGTH: u64 = 9;
-const NOT_SHOWN: u64 = 13;
-
-fn step_at(step: u64) -> u64 {
-    10 + 16 * step
-}
+const CHECK: Check = Check { what: "yes check", call: calls::check_yes, checker: checker::check_yes };
 
 /// What the yes check gives, after comparing it with the clear checker.
-fn yes(q: &Question, sheet: &[u8]) -> u64 {
-    Trial::new("yes check", calls::check_yes, checker::check_yes).sheet(q, sheet)
+fn yes(q: &Question, sheet: &[u8]) -> Result<(), Refused> {
+    CHECK.answer(q, sheet)
 }
 
 #[test]
 fn a_million_sheets() {
-    let trial = on_two_threads(SHEETS, |seed, sheets| {
-        let mut rng = Rng::new(seed);
-        let mut trial = Trial::new("yes check", calls::check_yes, checker::check_yes);
-        while trial.total() < sheets {
-            one_derivation(&mut rng, &mut trial);
-        }
-        trial
-    });
-    trial.report(&[0, 1, 2, 3, 4, 5, 9, 10, 13], &[3, 10]);
+    CHECK.a_million(one_derivation).report(&[0, 1, 2, 3, 4, 5, 9, 10, 13], &[3, 10]);
 }
 
 /// One pack and one derivation, and every sort of damage to them.
@@ -47,43 +34,19 @@ fn one_derivation(rng: &mut Rng, t: &mut Trial) {
     }
     let sheet = found.sheet();
     t.sheet(&q, &sheet);
-    other_questions(rng, t, &q, &sheet);
-    other_bytes(rng, t, &q, &sheet);
+    t.other_questions(rng, &q, &sheet);
+    t.other_bytes(rng, &q, &sheet, 200);
+    unmarked_records(t, &q, &sheet);
     other_steps(rng, t, &q, &sheet);
     random_sheets(rng, t, &q);
 }
 
-/// The good sheet with another goal, other sizes, other marks, a damaged pack.
-fn other_questions(rng: &mut Rng, t: &mut Trial, q: &Question, sheet: &[u8]) {
-    for faulty in damage::questions(rng, q) {
-        t.sheet(&faulty, sheet);
-    }
-    for _ in 0..4 {
-        let (a, b) = (rng.below(q.n as usize) as u64, rng.below(q.n as usize) as u64);
-        t.sheet(&Question { a, b, ..q.clone() }, sheet);
-    }
+/// The sheet where the record of one of its steps is not marked.
+fn unmarked_records(t: &mut Trial, q: &Question, sheet: &[u8]) {
     for used in sheet.chunks_exact(8).take(12) {
         let mut unmarked = q.clone();
         unmarked.marks[usize::from(used[1]) * 32 + usize::from(used[0]) / 8] &= !(1 << (used[0] % 8));
         t.sheet(&unmarked, sheet);
-    }
-    for i in damage::places(rng, q.pack.len(), 24) {
-        let mut other = q.clone();
-        other.pack[i] = damage::byte(rng, other.pack[i]);
-        t.sheet(&other, sheet);
-    }
-}
-
-/// Each byte damaged; cut short; made longer.
-fn other_bytes(rng: &mut Rng, t: &mut Trial, q: &Question, sheet: &[u8]) {
-    let mut copy = sheet.to_vec();
-    for i in damage::places(rng, sheet.len(), 200) {
-        copy[i] = damage::byte(rng, copy[i]);
-        t.sheet(q, &copy);
-        copy[i] = sheet[i];
-    }
-    for other in damage::lengths(rng, sheet) {
-        t.sheet(q, &other);
     }
 }
 
@@ -154,17 +117,17 @@ fn c3_and_c11() {
     ];
     assert_eq!(sheet[..], packs::valve_yes_sheet());
     assert_eq!(yes(&q, &sheet), ACCEPTED);
-    assert_eq!(yes(&q, &sheet[8..]), step_at(1));
-    assert_eq!(yes(&q, &sheet[..24]), NOT_SHOWN);
-    assert_eq!(yes(&q, &sheet[..31]), LENGTH);
+    assert_eq!(yes(&q, &sheet[8..]), Err(step_at(1)));
+    assert_eq!(yes(&q, &sheet[..24]), Err(NOT_SHOWN));
+    assert_eq!(yes(&q, &sheet[..31]), Err(LENGTH));
     // X of step 2 changed; and, every step good, another goal.
-    assert_eq!(yes(&q, &[&sheet[..18], &[1], &sheet[19..]].concat()), step_at(2));
-    assert_eq!(yes(&packs::valve(2, 1), &sheet), NOT_SHOWN);
+    assert_eq!(yes(&q, &[&sheet[..18], &[1], &sheet[19..]].concat()), Err(step_at(2)));
+    assert_eq!(yes(&packs::valve(2, 1), &sheet), Err(NOT_SHOWN));
     // Only the first step is good: a check that reads no further would be content.
-    assert_eq!(yes(&q, &[&sheet[..8], &sheet[24..]].concat()), step_at(1));
+    assert_eq!(yes(&q, &[&sheet[..8], &sheet[24..]].concat()), Err(step_at(1)));
     // The two steps by way of the open chest repair show it as well.
     assert_eq!(yes(&q, &steps(&[[4, 0, 0, 0], [5, 0, 0, 0]])), ACCEPTED);
-    assert_eq!(yes(&q, &steps(&[[5, 0, 0, 0], [4, 0, 0, 0]])), step_at(0));
+    assert_eq!(yes(&q, &steps(&[[5, 0, 0, 0], [4, 0, 0, 0]])), Err(step_at(0)));
 }
 
 #[test]
@@ -172,16 +135,16 @@ fn the_chain_read_the_other_way_round() {
     // C10: with record 2 as 6 1 0 0 the third step has no premise.
     let mut q = packs::valve(0, 1);
     q.pack[16..20].copy_from_slice(&[6, 1, 0, 0]);
-    assert_eq!(yes(&q, &packs::valve_yes_sheet()), step_at(2));
+    assert_eq!(yes(&q, &packs::valve_yes_sheet()), Err(step_at(2)));
 }
 
 #[test]
 fn a_goal_that_is_free_needs_no_step() {
     let q = packs::question(1, 0, &[], 0, 0);
     assert_eq!(yes(&q, &[]), ACCEPTED);
-    assert_eq!(yes(&q, &[0; 8]), step_at(0));
+    assert_eq!(yes(&q, &[0; 8]), Err(step_at(0)));
     assert_eq!(yes(&packs::valve(3, 3), &[]), ACCEPTED);
-    assert_eq!(yes(&packs::valve(3, 2), &[]), NOT_SHOWN);
+    assert_eq!(yes(&packs::valve(3, 2), &[]), Err(NOT_SHOWN));
 }
 
 #[test]
@@ -203,8 +166,13 @@ fn each_kind_in_one_step_more() {
     for missing in 0..list.len() {
         let mut short = list.to_vec();
         short.remove(missing);
-        let expected = [step_at(0), step_at(1), step_at(2), step_at(4), step_at(4), ACCEPTED, NOT_SHOWN];
-        assert_eq!(yes(&q, &steps(&short)), expected[missing], "without step {missing}");
+        let expected = match missing {
+            0 | 1 | 2 => Err(step_at(missing)),
+            3 | 4 => Err(step_at(4)),
+            5 => ACCEPTED,
+            _ => Err(NOT_SHOWN),
+        };
+        assert_eq!(yes(&q, &steps(&short)), expected, "without step {missing}");
     }
 }
 
@@ -217,7 +185,7 @@ fn unused_numbers_and_zeros() {
             sheet[8 * step + byte] = 4;
             let back = yes(&q, &sheet);
             if byte >= first_unused {
-                assert_eq!(back, step_at(step as u64));
+                assert_eq!(back, Err(step_at(step)));
             }
         }
     }
@@ -227,7 +195,7 @@ fn unused_numbers_and_zeros() {
 fn places_of_two_bytes() {
     let q = packs::valve(0, 1);
     for place in [4, 6, 260, 1024, 1028, 65535] {
-        let expected = if place == 4 { ACCEPTED } else { step_at(0) };
+        let expected = if place == 4 { ACCEPTED } else { Err(step_at(0)) };
         assert_eq!(yes(&q, &steps(&[[place, 0, 0, 0], [5, 0, 0, 0]])), expected, "place {place}");
     }
 }
@@ -239,9 +207,9 @@ fn an_unmarked_record_gives_no_step() {
         yes(&Question { marks, ..packs::valve(0, 1) }, sheet)
     };
     let (long, short) = (packs::valve_yes_sheet(), steps(&[[4, 0, 0, 0], [5, 0, 0, 0]]));
-    assert_eq!([0, 1, 2, 3].map(|i| without(i, &long)), [0, 1, 2, 3].map(step_at));
+    assert_eq!([0, 1, 2, 3].map(|i| without(i, &long)), [0, 1, 2, 3].map(|i| Err(step_at(i))));
     assert_eq!([4, 5].map(|i| without(i, &long)), [ACCEPTED; 2]);
-    assert_eq!([4, 5].map(|i| without(i, &short)), [step_at(0), step_at(1)]);
+    assert_eq!([4, 5].map(|i| without(i, &short)), [Err(step_at(0)), Err(step_at(1))]);
 }
 
 #[test]
@@ -250,41 +218,39 @@ fn the_longest_sheet() {
     let sheet = steps(&vec![[0, 0, 0, 0]; 65_536]);
     assert_eq!(sheet.len(), 524_288);
     assert_eq!(yes(&q, &sheet), ACCEPTED);
-    assert_eq!(yes(&q, &[&sheet[..], &[0]].concat()), LENGTH);
-    assert_eq!(yes(&q, &[&sheet[..], &[0; 8]].concat()), LENGTH);
+    assert_eq!(yes(&q, &[&sheet[..], &[0]].concat()), Err(LENGTH));
+    assert_eq!(yes(&q, &[&sheet[..], &[0; 8]].concat()), Err(LENGTH));
     let mut damaged = sheet.clone();
     damaged[524_282] = 1;
-    assert_eq!(yes(&q, &damaged), step_at(65_535));
-    assert_eq!(yes(&Question { a: 1, b: 0, ..q }, &sheet), NOT_SHOWN);
+    assert_eq!(yes(&q, &damaged), Err(step_at(65_535)));
+    assert_eq!(yes(&Question { a: 1, b: 0, ..q }, &sheet), Err(NOT_SHOWN));
 }
 
 #[test]
 fn sizes_and_the_longest_pack() {
-    let one = |n, m, len: usize| {
-        let pack = (0..len).map(|i| u8::from(i % 8 == 0)).collect();
-        yes(&Question { n, m, pack, marks: vec![0; 128], a: 0, b: 0 }, &[])
-    };
+    let one = |n, m, len: usize| number(yes(&packs::of_length(n, m, len), &[]));
     assert_eq!([one(0, 0, 0), one(65, 0, 0), one(64, 0, 0), one(1, 0, 0)], [1, 1, 0, 0]);
     assert_eq!([one(64, 8, 0), one(64, 9, 0), one((1 << 32) + 5, 0, 0)], [0, 1, 1]);
     assert_eq!([one(64, 8, 8192), one(64, 8, 8200), one(64, 8, 7)], [0, 2, 2]);
     let q = packs::longest();
     assert_eq!(yes(&q, &steps(&[[1023, 0, 0, 0]])), ACCEPTED);
-    assert_eq!(yes(&q, &steps(&[[1022, 0, 0, 0]])), step_at(0));
-    assert_eq!(yes(&q, &[]), NOT_SHOWN);
+    assert_eq!(yes(&q, &steps(&[[1022, 0, 0, 0]])), Err(step_at(0)));
+    assert_eq!(yes(&q, &[]), Err(NOT_SHOWN));
 }
 
 #[test]
 fn a_rejected_yes_sheet_is_no_proof_of_no() {
+    let no = |q: &Question| sheet_answer(calls::check_no(q, &packs::valve_no_sheet()));
     // Goal (0,1) follows, whatever a bad sheet looks like; and no world refutes it.
     let q = packs::valve(0, 1);
     let good = packs::valve_yes_sheet();
     let bad = [&[][..], &good[..24], &good[8..], &good[..31]];
     let rejected = bad.map(|sheet| yes(&q, sheet));
-    assert_eq!(rejected, [NOT_SHOWN, NOT_SHOWN, step_at(1), LENGTH]);
+    assert_eq!(rejected, [Err(NOT_SHOWN), Err(NOT_SHOWN), Err(step_at(1)), Err(LENGTH)]);
     assert_eq!(yes(&q, &good), ACCEPTED);
-    assert_eq!(calls::check_no(&q, &packs::valve_no_sheet()), NOT_SHOWN);
+    assert_eq!(no(&q), Err(NOT_SHOWN));
     // Goal (2,1) does not follow: only the accepted no sheet says so.
     let q = packs::valve(2, 1);
-    assert_eq!(yes(&q, &good), NOT_SHOWN);
-    assert_eq!(calls::check_no(&q, &packs::valve_no_sheet()), ACCEPTED);
+    assert_eq!(yes(&q, &good), Err(NOT_SHOWN));
+    assert_eq!(no(&q), ACCEPTED);
 }
