@@ -1,6 +1,7 @@
 //! The calls under test, as include/noolukask.h declares them, and safe wrappers of them.
-//! The wrappers lend copies at any alignment, between fences, and compare every byte afterwards.
+//! The wrappers lend guarded copies and compare every byte afterwards.
 
+use crate::guarded::Guarded;
 use crate::rules::Question;
 
 /// The calls as they are, for measurements too. A `&[u8]` is a pointer and then a length.
@@ -48,50 +49,27 @@ pub fn filled(len: usize) -> Vec<u8> {
     (0..len).map(|i| (i as u8).wrapping_mul(37) ^ (i >> 8) as u8 ^ 0x5A).collect()
 }
 
-const FENCE: u8 = 0xA5;
-
-/// A copy of bytes between two fences, so that nothing useful lies beside it.
+/// A copy of bytes that a call reads.
 struct Lent<'a> {
     bytes: &'a [u8],
-    start: usize,
-    copy: Vec<u8>,
+    copy: Guarded,
 }
 
 impl<'a> Lent<'a> {
     fn new(bytes: &'a [u8]) -> Lent<'a> {
-        // The start varies with the content: every alignment occurs.
-        let start = 8 + (bytes.len() + bytes.iter().take(24).map(|&b| b as usize).sum::<usize>()) % 8;
-        let mut copy = vec![FENCE; start + bytes.len() + 16];
-        copy[start..start + bytes.len()].copy_from_slice(bytes);
-        Lent { bytes, start, copy }
+        Lent { bytes, copy: Guarded::new(bytes) }
     }
 
     fn at(&self) -> *const u8 {
-        self.copy[self.start..].as_ptr()
+        self.copy.as_ptr()
     }
 
     fn len(&self) -> usize {
-        self.bytes.len()
+        self.copy.len()
     }
 
     fn assert_unchanged(&self) {
-        let (before, rest) = self.copy.split_at(self.start);
-        let (lent, after) = rest.split_at(self.bytes.len());
-        assert!(lent == self.bytes, "a call changed its input");
-        assert!(before.iter().chain(after).all(|&b| b == FENCE), "a call wrote beside its input");
-    }
-
-    /// For a call that may write between the fences.
-    fn at_mut(&mut self) -> *mut u8 {
-        self.copy[self.start..].as_mut_ptr()
-    }
-
-    /// What such a call left there.
-    fn written(&self) -> &[u8] {
-        let (before, rest) = self.copy.split_at(self.start);
-        let (lent, after) = rest.split_at(self.bytes.len());
-        assert!(before.iter().chain(after).all(|&b| b == FENCE), "a call wrote beside its buffer");
-        lent
+        assert!(self.copy.bytes() == self.bytes, "a call changed its input");
     }
 }
 
@@ -155,17 +133,17 @@ pub fn verdict(q: &Question) -> u64 {
 
 /// What comes back, and what a buffer that held `before` holds afterwards.
 pub fn write_sheet(q: &Question, before: &[u8]) -> (u64, Vec<u8>) {
-    let (pack, marks, mut sheet) = (Lent::new(&q.pack), Lent::new(&q.marks), Lent::new(before));
+    let (pack, marks, mut sheet) = (Lent::new(&q.pack), Lent::new(&q.marks), Guarded::new(before));
     // SAFETY: as above; only the call writes to the buffer meanwhile.
     let back = unsafe {
         raw::noolukask_write_sheet(
             q.n, q.m, pack.at(), pack.len(), marks.at(), marks.len(), q.a, q.b,
-            sheet.at_mut(), sheet.len(),
+            sheet.as_mut_ptr(), sheet.len(),
         )
     };
     pack.assert_unchanged();
     marks.assert_unchanged();
-    (back, sheet.written().to_vec())
+    (back, sheet.bytes().to_vec())
 }
 
 /// The sheet writer with NULL and length 0 for the buffer, as a first call that asks for the room.
@@ -185,70 +163,55 @@ pub fn write_sheet_to_null(q: &Question) -> u64 {
 
 /// The module of `q.a`: what comes back, and what out marks that held `before` hold afterwards.
 pub fn module(q: &Question, before: &[u8]) -> (u64, Vec<u8>) {
-    let (pack, marks, mut out) = (Lent::new(&q.pack), Lent::new(&q.marks), Lent::new(before));
+    let (pack, marks, mut out) = (Lent::new(&q.pack), Lent::new(&q.marks), Guarded::new(before));
     // SAFETY: as above; only the call writes to the out marks meanwhile.
     let back = unsafe {
         raw::noolukask_module(
-            q.n, q.m, pack.at(), pack.len(), marks.at(), marks.len(), q.a, out.at_mut(), out.len(),
+            q.n, q.m, pack.at(), pack.len(), marks.at(), marks.len(), q.a, out.as_mut_ptr(), out.len(),
         )
     };
     pack.assert_unchanged();
     marks.assert_unchanged();
-    (back, out.written().to_vec())
+    (back, out.bytes().to_vec())
 }
 
 /// The printed set, in the same way.
 pub fn printed_set(q: &Question, before: &[u8]) -> (u64, Vec<u8>) {
-    let (pack, marks, mut out) = (Lent::new(&q.pack), Lent::new(&q.marks), Lent::new(before));
+    let (pack, marks, mut out) = (Lent::new(&q.pack), Lent::new(&q.marks), Guarded::new(before));
     // SAFETY: as above.
     let back = unsafe {
         raw::noolukask_printed_set(
             q.n, q.m, pack.at(), pack.len(), marks.at(), marks.len(), q.a, q.b,
-            out.at_mut(), out.len(),
+            out.as_mut_ptr(), out.len(),
         )
     };
     pack.assert_unchanged();
     marks.assert_unchanged();
-    (back, out.written().to_vec())
+    (back, out.bytes().to_vec())
 }
 
-/// The two calls that give reasons, with NULL and length 0 for the pack and for the out marks.
-pub fn reasons_to_null(marks: &[u8]) -> [u64; 2] {
-    let (null, marks) = (std::ptr::null(), Lent::new(marks));
-    let none = std::ptr::null_mut();
-    // SAFETY: no byte is read or written where the length is 0.
+/// All eight calls on an empty pack, in the order of the header, with NULL and length 0 for the pack and for the
+/// sheet, and for the marks and the out marks where they are empty. Then what the out marks of both calls hold.
+pub fn with_null(n: u64, a: u64, b: u64, marks: &[u8], before: &[u8]) -> ([u64; 8], [Vec<u8>; 2]) {
+    let (null, none) = (std::ptr::null(), std::ptr::null_mut());
+    let lent = Lent::new(marks);
+    let marked = if marks.is_empty() { null } else { lent.at() };
+    let (mut module, mut set) = (Guarded::new(before), Guarded::new(before));
+    let out = |lent: &mut Guarded| if before.is_empty() { none } else { lent.as_mut_ptr() };
+    let (len, out_len) = (marks.len(), before.len());
+    // SAFETY: no byte is read or written where the length is 0; the marks and the out marks are as above.
     let back = unsafe {
         [
-            raw::noolukask_module(1, 0, null, 0, marks.at(), marks.len(), 0, none, 0),
-            raw::noolukask_printed_set(1, 0, null, 0, marks.at(), marks.len(), 0, 0, none, 0),
+            raw::noolukask_check_pack(n, 0, null, 0),
+            raw::noolukask_check_question(n, 0, null, 0, marked, len, a, b),
+            raw::noolukask_verdict(n, 0, null, 0, marked, len, a, b),
+            raw::noolukask_write_sheet(n, 0, null, 0, marked, len, a, b, none, 0),
+            raw::noolukask_module(n, 0, null, 0, marked, len, a, out(&mut module), out_len),
+            raw::noolukask_printed_set(n, 0, null, 0, marked, len, a, b, out(&mut set), out_len),
+            raw::noolukask_check_yes(n, 0, null, 0, marked, len, a, b, null, 0),
+            raw::noolukask_check_no(n, 0, null, 0, marked, len, a, b, null, 0),
         ]
     };
-    marks.assert_unchanged();
-    back
-}
-
-/// The two calls that decide, with NULL and length 0 for every slice, n = 1, m = 0, goal (0,0).
-pub fn decide_with_null() -> [u64; 2] {
-    let null = std::ptr::null();
-    // SAFETY: no byte is read or written where the length is 0.
-    unsafe {
-        [
-            raw::noolukask_verdict(1, 0, null, 0, null, 0, 0, 0),
-            raw::noolukask_write_sheet(1, 0, null, 0, null, 0, 0, 0, std::ptr::null_mut(), 0),
-        ]
-    }
-}
-
-/// All four calls with NULL and length 0 for every slice, n = 1, m = 0, goal (0,0).
-pub fn with_null() -> [u64; 4] {
-    let null = std::ptr::null();
-    // SAFETY: no byte is read where the length is 0.
-    unsafe {
-        [
-            raw::noolukask_check_pack(1, 0, null, 0),
-            raw::noolukask_check_question(1, 0, null, 0, null, 0, 0, 0),
-            raw::noolukask_check_yes(1, 0, null, 0, null, 0, 0, 0, null, 0),
-            raw::noolukask_check_no(1, 0, null, 0, null, 0, 0, 0, null, 0),
-        ]
-    }
+    lent.assert_unchanged();
+    (back, [module.bytes().to_vec(), set.bytes().to_vec()])
 }

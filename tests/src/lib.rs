@@ -8,6 +8,7 @@ pub mod checker;
 pub mod compared;
 pub mod damage;
 pub mod derive;
+pub mod guarded;
 pub mod packs;
 pub mod reasoner;
 pub mod reasons;
