@@ -3,7 +3,7 @@
 
 use noolukask_tests::calls::filled;
 use noolukask_tests::compared::{ask_module, ask_set, minimal, module, set};
-use noolukask_tests::packs::{self, marks, places, question, valve, Shape, SHAPES, VALVE};
+use noolukask_tests::packs::{self, marks, places, question, steps, valve, Shape, SHAPES, VALVE};
 use noolukask_tests::reasons::{self, only};
 use noolukask_tests::rng::Rng;
 use noolukask_tests::rules::{
@@ -246,6 +246,30 @@ fn every_goal_of_the_valve_pack() {
         };
         assert_eq!(set(&q), expected);
     }
+}
+
+#[test]
+fn the_page_on_striking_records() {
+    // README's table: what is struck, the printed set, our sheet.
+    let by_the_site = [[0, 0, 0, 0], [1, 2, 0, 0], [2, 0, 2, 3], [3, 0, 3, 0]];
+    let by_the_chest = [[0, 0, 0, 0], [1, 2, 0, 0], [4, 0, 0, 0], [5, 0, 0, 0]];
+    let without = |struck: &[usize]| {
+        let left: Vec<usize> = (0..6).filter(|place| !struck.contains(place)).collect();
+        only(&valve(0, 1), &left)
+    };
+    let lines: [(&[usize], &[usize], _); 3] =
+        [(&[], &[4, 5], by_the_site), (&[4], &[0, 1, 2, 3], by_the_site), (&[2], &[4, 5], by_the_chest)];
+    for (struck, reason, sheet) in lines {
+        let (q, sheet) = (without(struck), steps(&sheet));
+        assert_eq!(calls::verdict(&q), 256, "{struck:?}");
+        assert_eq!(set(&q).as_deref(), Some(reason), "{struck:?}");
+        assert_eq!(calls::write_sheet(&q, &[7; 32]), (256 * (2 * 4 + 1), sheet.clone()), "{struck:?}");
+        assert_eq!(calls::check_yes(&q, &sheet), 0, "{struck:?}");
+    }
+    let q = without(&[2, 4]);
+    assert_eq!((calls::verdict(&q), set(&q)), (0, None));
+    let (back, sheet) = calls::write_sheet(&q, &[7; 120]);
+    assert_eq!((back, calls::check_no(&q, &sheet)), (256 * 2 * 15, 0));
 }
 
 // ---- Run only, and refusals ----
