@@ -124,6 +124,7 @@ pub fn set_taken(q: &Question, out: usize) -> Result<(), Refused> {
 #[cfg(test)]
 mod tests {
     use super::*;
+    use crate::chains;
     use crate::packs::{question, random_question, valve};
     use crate::rng::Rng;
     use crate::rules::GOAL;
@@ -131,14 +132,13 @@ mod tests {
     #[test]
     fn three_ways_to_one_set() {
         let mut rng = Rng::new(51);
-        let mut seen = [0; 2];
-        for _ in 0..600 {
-            let (n, m, count) = (rng.between(1, 5), rng.between(0, 3), rng.below(8));
-            let mut q = random_question(&mut rng, n, m, count);
-            passes(&q).draw_goal(&mut rng, &mut q);
+        let mut seen = [0; 5];
+        for turn in 0..600 {
+            let q = if turn % 10 == 0 { chains::question(&mut rng) } else { few_records(&mut rng) };
             let set = printed(&q);
             assert_eq!(set, printed_of_all(&q));
-            seen[usize::from(set.is_some())] += 1;
+            // No set, and sets of none, one, two, three and more records.
+            seen[set.as_ref().map_or(0, |set| 1 + set.len().min(3))] += 1;
             // Every other subset is judged to be another.
             let marked = places(&q.marks);
             for subset in 0u32..1 << marked.len() {
@@ -147,19 +147,29 @@ mod tests {
                 assert_eq!(is_printed(&q, &chosen, follows_by_passes), set.as_ref() == Some(&chosen));
             }
         }
-        assert!(seen.iter().all(|&times| times > 100), "{seen:?}");
+        assert!(seen.iter().all(|&times| times > 20), "{seen:?}");
+    }
+
+    /// So few records that every subset can be judged.
+    fn few_records(rng: &mut Rng) -> Question {
+        let (n, m, count) = (rng.between(1, 5), rng.between(0, 3), rng.below(8));
+        let mut q = random_question(rng, n, m, count);
+        passes(&q).draw_goal(rng, &mut q);
+        q
     }
 
     #[test]
     fn the_set_lies_in_the_module() {
         let mut rng = Rng::new(52);
+        let mut less = 0;
         for _ in 0..2000 {
-            let (n, m, count) = (rng.between(2, 6), rng.between(0, 3), rng.below(13));
-            let mut q = random_question(&mut rng, n, m, count);
-            passes(&q).draw_goal(&mut rng, &mut q);
-            let module = module(&q);
-            assert_eq!(printed(&q), printed(&only(&q, &module)));
+            let q = chains::small_question(&mut rng, 50);
+            let (set, module) = (printed(&q), module(&q));
+            assert_eq!(set, printed(&only(&q, &module)));
+            less += u32::from(set.is_some() && module.len() < places(&q.marks).len());
         }
+        // Often the module is not the whole pack.
+        assert!(less > 300, "{less}");
     }
 
     #[test]
