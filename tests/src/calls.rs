@@ -65,7 +65,7 @@ impl<'a> Lent<'a> {
     }
 
     fn len(&self) -> usize {
-        self.copy.len()
+        self.bytes.len()
     }
 
     fn assert_unchanged(&self) {
@@ -138,7 +138,7 @@ pub fn write_sheet(q: &Question, before: &[u8]) -> (u64, Vec<u8>) {
     let back = unsafe {
         raw::noolukask_write_sheet(
             q.n, q.m, pack.at(), pack.len(), marks.at(), marks.len(), q.a, q.b,
-            sheet.as_mut_ptr(), sheet.len(),
+            sheet.as_mut_ptr(), before.len(),
         )
     };
     pack.assert_unchanged();
@@ -167,7 +167,7 @@ pub fn module(q: &Question, before: &[u8]) -> (u64, Vec<u8>) {
     // SAFETY: as above; only the call writes to the out marks meanwhile.
     let back = unsafe {
         raw::noolukask_module(
-            q.n, q.m, pack.at(), pack.len(), marks.at(), marks.len(), q.a, out.as_mut_ptr(), out.len(),
+            q.n, q.m, pack.at(), pack.len(), marks.at(), marks.len(), q.a, out.as_mut_ptr(), before.len(),
         )
     };
     pack.assert_unchanged();
@@ -182,7 +182,7 @@ pub fn printed_set(q: &Question, before: &[u8]) -> (u64, Vec<u8>) {
     let back = unsafe {
         raw::noolukask_printed_set(
             q.n, q.m, pack.at(), pack.len(), marks.at(), marks.len(), q.a, q.b,
-            out.as_mut_ptr(), out.len(),
+            out.as_mut_ptr(), before.len(),
         )
     };
     pack.assert_unchanged();

@@ -3,8 +3,8 @@
 
 use crate::rng::Rng;
 use std::cell::RefCell;
-use std::ffi::{c_int, c_void};
 use std::ops::Range;
+use std::os::raw::{c_int, c_void};
 
 extern "C" {
     fn mmap(at: *mut c_void, len: usize, may: c_int, how: c_int, file: c_int, offset: i64) -> *mut c_void;
@@ -85,7 +85,7 @@ pub struct Guarded {
 
 impl Guarded {
     pub fn new(bytes: &[u8]) -> Guarded {
-        Guarded::at(bytes, DRAWN.with_borrow_mut(|rng| rng.pick(&PLACES)))
+        Guarded::at(bytes, DRAWN.with(|rng| rng.borrow_mut().pick(&PLACES)))
     }
 
     fn at(bytes: &[u8], place: Place) -> Guarded {
@@ -96,7 +96,7 @@ impl Guarded {
         };
         let copy = start..start + bytes.len();
         assert!(copy.end + FENCE_LEN <= ROOM || copy.end == ROOM, "no room for {} bytes", bytes.len());
-        let mut pages = FREE.with_borrow_mut(Vec::pop).unwrap_or_else(Pages::new);
+        let mut pages = FREE.with(|free| free.borrow_mut().pop()).unwrap_or_else(Pages::new);
         let room = pages.room_mut();
         fences(&copy).for_each(|fence| room[fence].fill(FENCE));
         room[copy.clone()].copy_from_slice(bytes);
@@ -114,10 +114,6 @@ impl Guarded {
     /// For a call that may write there.
     pub fn as_mut_ptr(&mut self) -> *mut u8 {
         self.pages().0.wrapping_add(self.copy.start)
-    }
-
-    pub fn len(&self) -> usize {
-        self.copy.len()
     }
 
     fn fences_stand(&self) -> bool {
@@ -141,7 +137,7 @@ fn fences(copy: &Range<usize>) -> impl Iterator<Item = Range<usize>> {
 impl Drop for Guarded {
     fn drop(&mut self) {
         let pages = self.pages.take();
-        FREE.with_borrow_mut(|free| free.extend(pages));
+        FREE.with(|free| free.borrow_mut().extend(pages));
     }
 }
 

@@ -42,10 +42,13 @@ struct Counts {
 impl Counts {
     fn answered(&mut self, q: &Question, module: &[usize], set: Option<&[usize]>) {
         self.module = self.module.max(module.len());
-        let Some(set) = set else {
-            self.numbers[7] += 1;
-            return;
-        };
+        match set {
+            Some(set) => self.printed(q, set),
+            None => self.numbers[7] += 1,
+        }
+    }
+
+    fn printed(&mut self, q: &Question, set: &[usize]) {
         self.set = self.set.max(set.len());
         self.sizes[set.len().min(4)] += 1;
         for kind in 1..=6 {

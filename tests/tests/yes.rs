@@ -167,7 +167,7 @@ fn each_kind_in_one_step_more() {
         let mut short = list.to_vec();
         short.remove(missing);
         let expected = match missing {
-            0 | 1 | 2 => Err(step_at(missing)),
+            0..=2 => Err(step_at(missing)),
             3 | 4 => Err(step_at(4)),
             5 => ACCEPTED,
             _ => Err(NOT_SHOWN),
