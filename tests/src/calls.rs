@@ -161,6 +161,21 @@ pub fn write_sheet_to_null(q: &Question) -> u64 {
     back
 }
 
+/// The yes check and the no check with NULL and length 0 for the sheet.
+pub fn checks_of_null(q: &Question) -> [u64; 2] {
+    let (pack, marks, null) = (Lent::new(&q.pack), Lent::new(&q.marks), std::ptr::null());
+    let (pack_len, marks_len) = (pack.len(), marks.len());
+    // SAFETY: as above; no byte is read where the length is 0.
+    let back = unsafe {
+        [
+            raw::noolukask_check_yes(q.n, q.m, pack.at(), pack_len, marks.at(), marks_len, q.a, q.b, null, 0),
+            raw::noolukask_check_no(q.n, q.m, pack.at(), pack_len, marks.at(), marks_len, q.a, q.b, null, 0),
+        ]
+    };
+    [pack, marks].iter().for_each(Lent::assert_unchanged);
+    back
+}
+
 /// The module of `q.a`: what comes back, and what out marks that held `before` hold afterwards.
 pub fn module(q: &Question, before: &[u8]) -> (u64, Vec<u8>) {
     let (pack, marks, mut out) = (Lent::new(&q.pack), Lent::new(&q.marks), Guarded::new(before));

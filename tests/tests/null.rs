@@ -1,6 +1,6 @@
 //! NULL with length 0, for every slice of every call.
 
-use noolukask_tests::calls::{filled, with_null, write_sheet_to_null};
+use noolukask_tests::calls::{checks_of_null, filled, with_null, write_sheet_to_null};
 use noolukask_tests::packs::valve;
 use noolukask_tests::rules;
 
@@ -48,6 +48,12 @@ fn a_mark_past_an_empty_pack_is_refused() {
     marks[127] = 0x80;
     let refused = [0, MARKS, MARKS, MARKS, MARKS, MARKS, MARKS, MARKS];
     assert_eq!(with_null(1, 0, 0, &marks, &filled(128)), (refused, [filled(128), filled(128)]));
+}
+
+#[test]
+fn an_empty_sheet_on_the_valve_pack() {
+    assert_eq!(checks_of_null(&valve(3, 3)), [0, LENGTH]);
+    assert_eq!(checks_of_null(&valve(0, 1)), [NOT_SHOWN, LENGTH]);
 }
 
 #[test]
