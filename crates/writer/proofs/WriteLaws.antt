@@ -4,7 +4,7 @@ use mathlib.Core.Bool.{Bool, true, false, cond}
 use mathlib.Core.List.{List, [], _++_, map, flatten, reverse, append-nil}
 use Prim.Native.Nat.{ℕ, _+_, _-_, _*_, _/_, _%_, _^_, _≤_, _<_}
 use native.Mathlib.Decide.{decLt}
-use native.Mathlib.Nat.{mul-comm, mul-add, mul-one, mod-lt, div-add-mod', div-lt-iff-lt-mul}
+use native.Mathlib.Nat.{mul-comm, mul-le-mul-left, mul-add, mul-one, mod-lt, div-add-mod', div-lt-iff-lt-mul}
 use native.Mathlib.Omega.{arith}
 use lib.Dec.{leb}
 use lib.ListN.{length, getD, drop, length-reverse, drop-of-length-le}
@@ -43,6 +43,10 @@ use Rattle.writer.specs.declared.write.SheetAnswer.the-variants as answe
 use Rattle.writer.specs.Sheet.{yesBytes, noBytes, ourSheet, sheetAnswer, sheetOut, askSheet, writtenSheet}
 use Rattle.writer.specs.Inner.{rowIn, rowsBytes}
 use Rattle.writer.proofs.SheetLaws.{with-steps, yes-length, no-length}
+
+-- the rows of a no sheet are at most 9 for a thing: its concepts and 8 roles
+pub rows-few : (n m : ℕ) → m ≤ 8 → n * (1 + m) ≤ n * 9
+rows-few n m h = mul-le-mul-left {m = 1 + m} {n = 9} n (omega arith)
 
 -- a row past the concept rows is of one of the roles
 pub div-less : (i n : ℕ) → 1 ≤ n → i < n * 9 → n ≤ i → (i - n) / n < 8

@@ -1,25 +1,25 @@
--- `write_no`: at most 576 rows (`rows-few`): NO ROOM, the sheet as it was, or each row in 8 bytes (`words-length`).
+-- `write_no`: at most 9 rows a thing (`rows-few`): NO ROOM, the sheet as it was, or each row in 8 bytes (`words-length`).
 use mathlib.Core.Path.{refl, ap}
 use Prim.Native.Nat.{_+_, _*_}
-use native.Mathlib.Nat.{mul-comm, mul-le-mul-left}
+use native.Mathlib.Nat.{mul-comm}
 use native.Mathlib.Omega.{arith}
 use borrow.Author.Needs.{needs}
 use borrow.Author.Tests.{le-leb, lt-leb}
 use Rattle.pack.proofs.BytesLaws.{words-length}
-use Rattle.no.proofs.NoLaws.{rows-few}
 use Rattle.writer.specs.declared.write.SheetAnswer.the-variants.{NoRoom}
 use Rattle.writer.specs.Inner.{rowIn, rowsBytes}
+use Rattle.writer.proofs.WriteLaws.{rows-few}
 use Rattle.writer.proofs.write.write_no.Statement.{statement}
 use Rattle.writer.proofs.write.write_no.Tie as tie
 
 mul-rows : tie.Need-mul-rows
-mul-rows c = omega (arith, rows-few (c .before .args .m) (c .before .args .n) (c .before .pre .2) (c .before .pre .1))
+mul-rows c = omega (arith, rows-few (c .before .args .n) (c .before .args .m) (c .before .pre .2))
 
 mul-need : tie.Need-mul-need
-mul-need c = omega (arith, rows-few (c .before .args .m) (c .before .args .n) (c .before .pre .2) (c .before .pre .1))
+mul-need c = omega (arith, rows-few (c .before .args .n) (c .before .args .m) (c .before .pre .2))
 
 cast-t10 : tie.Need-cast-t10
-cast-t10 c = omega (arith, rows-few (c .before .before .args .m) (c .before .before .args .n) (c .before .before .pre .2) (c .before .before .pre .1))
+cast-t10 c = omega (arith, rows-few (c .before .before .args .n) (c .before .before .args .m) (c .before .before .pre .2))
 
 returns : tie.Need-returns
 returns c =
@@ -29,10 +29,10 @@ write-rows-requires : tie.Need-write-rows-requires
 write-rows-requires c κs =
     let a = c .before .before .before .args in
     let pre = c .before .before .before .pre in
-    (pre .0, pre .1, omega (arith, mul-le-mul-left {m = 1 + a .m} {n = 9} (a .n) (omega arith)), c .before .if1 .left)
+    (pre .0, pre .1, rows-few (a .n) (a .m) (pre .2), c .before .if1 .left)
 
 cast-t14 : tie.Need-cast-t14
-cast-t14 c = omega (arith, rows-few (c .before .before .before .before .before .before .args .m) (c .before .before .before .before .before .before .args .n) (c .before .before .before .before .before .before .pre .2) (c .before .before .before .before .before .before .pre .1))
+cast-t14 c = omega (arith, rows-few (c .before .before .before .before .before .before .args .n) (c .before .before .before .before .before .before .args .m) (c .before .before .before .before .before .before .pre .2))
 
 returns-2 : tie.Need-returns-2
 unfolding rowsBytes
