@@ -1,4 +1,4 @@
--- What inner functions promise to each other: the bytes of rows. No public promise cites this page.
+-- What inner functions promise to each other: the bytes of rows. Only functions that docs/PROMISES.md lists as inner cite this page.
 use mathlib.Core.Bool.{cond}
 use mathlib.Core.List.{List}
 use Prim.Native.Nat.{ℕ, _+_, _-_, _*_, _/_, _%_}
