@@ -1,4 +1,5 @@
--- The laws of the engine: the goal's step, runs that may stop, the verdict, completion.
+-- The laws of the engine: C9, the goal's step, runs that may stop, the verdict, completion.
+pub mod Cases
 pub mod GoalLaws
 pub mod RunLaws
 pub mod VerdictLaws
