@@ -7,7 +7,7 @@ use native.Mathlib.Omega.{arith}
 use lib.Dec.{eqb, ltb}
 use lib.ListN.{length, getD, take, drop}
 use borrow.Author.Tests.{eq-eqb, ne-eqb, lt-ltb, le-ltb}
-use Rattle.bits.proofs.Truth.{and-false}
+use Rattle.bits.proofs.Truth.{and-no}
 use Rattle.bench.specs.declared.input.Input.{Input}
 use Rattle.bench.specs.declared.input.Input.the-variants.{Refused, Question}
 use Rattle.bench.specs.Input.{questionIn, inputOf}
@@ -24,13 +24,13 @@ module _ (q : List ℕ) (at : ℕ) where
   not-0 h = other (ap (λ (t : Bool). t && zero-at 5 && zero-at 6 && zero-at 7) (ne-eqb (getD q 0 0) 0 h))
 
   pub not-5 : (getD q 5 0 ≡ 0 → ⊥) → Refused 1 ≡ questionIn q at
-  not-5 h = other (ap (λ (t : Bool). t && zero-at 6 && zero-at 7) (and-false (zero-at 0) (zero-at 5) (ne-eqb (getD q 5 0) 0 h)))
+  not-5 h = other (ap (λ (t : Bool). t && zero-at 6 && zero-at 7) (and-no (zero-at 0) (zero-at 5) (ne-eqb (getD q 5 0) 0 h)))
 
   pub not-6 : (getD q 6 0 ≡ 0 → ⊥) → Refused 1 ≡ questionIn q at
-  not-6 h = other (ap (λ (t : Bool). t && zero-at 7) (and-false (zero-at 0 && zero-at 5) (zero-at 6) (ne-eqb (getD q 6 0) 0 h)))
+  not-6 h = other (ap (λ (t : Bool). t && zero-at 7) (and-no (zero-at 0 && zero-at 5) (zero-at 6) (ne-eqb (getD q 6 0) 0 h)))
 
   pub not-7 : (getD q 7 0 ≡ 0 → ⊥) → Refused 1 ≡ questionIn q at
-  not-7 h = other (and-false (zero-at 0 && zero-at 5 && zero-at 6) (zero-at 7) (ne-eqb (getD q 7 0) 0 h))
+  not-7 h = other (and-no (zero-at 0 && zero-at 5 && zero-at 6) (zero-at 7) (ne-eqb (getD q 7 0) 0 h))
 
   pub all-zero : getD q 0 0 ≡ 0 → getD q 5 0 ≡ 0 → getD q 6 0 ≡ 0 → getD q 7 0 ≡ 0 → Question (getD q 1 0) (getD q 2 0) (getD q 3 0) (getD q 4 0) at ≡ questionIn q at
   all-zero h₀ h₅ h₆ h₇ = rw (eq-eqb (getD q 0 0) 0 h₀, eq-eqb (getD q 5 0) 0 h₅, eq-eqb (getD q 6 0) 0 h₆, eq-eqb (getD q 7 0) 0 h₇)

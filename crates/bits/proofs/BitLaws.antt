@@ -1,6 +1,6 @@
 -- Laws of bit j of a number. `bit` is 0 or 1, so that each law is an equation that omega reads; `has` is the same as yes or no.
 use mathlib.Core.Path.{_≡_, refl, sym, ap, _∙_}
-use mathlib.Core.Bool.{Bool, true, false, cond, not, _&&_, _||_}
+use mathlib.Core.Bool.{Bool, true, false, cond, not, _&&_, _||_, or-false}
 use Prim.Native.Nat.{ℕ, zero, suc, _+_, _-_, _*_, _/_, _%_, _^_, _≤_, _<_, min, max}
 use native.Mathlib.Decide.{ℕ-discrete, decLt}
 use native.Mathlib.Nat.{mod-lt, mod-eq-of-lt, zero-lt-suc, pow-suc, not-suc-le-zero, div-one, one-mul}
@@ -10,9 +10,9 @@ use lib.Arith.{lt-one}
 use lib.Bits.{bitAnd, bitOr, and-shr, or-shr, and-step, or-step, and-le-l}
 use lib.Dec.{lit<, eqb}
 use lib.Pow.{shr-shr, pow-pos, shl-exact}
-use borrow.Author.Tests.{eqb-true, eq-eqb, ne-eqb}
+use borrow.Author.Tests.{eqb-true, eq-eqb, ne-eqb, not-false}
 use Rattle.bits.specs.Bit.{has, withBit}
-use Rattle.bits.proofs.Truth.{true-and, or-false, not-false, never}
+use Rattle.bits.proofs.Truth.{true-both, never}
 
 -- bit j of w, as a number
 unfoldable pub bit : ℕ → ℕ → ℕ
@@ -218,7 +218,7 @@ contained k x y hx hy e j l h = go (has y j) refl (meets-none x ((2 ^ k - 1) - y
   where
     go : (t : Bool) → has y j ≡ t → (has x j && has ((2 ^ k - 1) - y) j) ≡ false → t ≡ true
     go true g z = refl
-    go false g z = never (true-and (has x j) (has ((2 ^ k - 1) - y) j) h (has-not-word k y j hy l ∙ ap not g)) z
+    go false g z = never (true-both (has x j) (has ((2 ^ k - 1) - y) j) h (has-not-word k y j hy l ∙ ap not g)) z
 
 pub contains : (k x y : ℕ) → x < 2 ^ k → y < 2 ^ k → ((j : ℕ) → j < k → has x j ≡ true → has y j ≡ true) → bitAnd x ((2 ^ k - 1) - y) ≡ 0
 contains k x y hx hy f = none-meets k x ((2 ^ k - 1) - y) hx (λ j l. go j l (has x j) refl)

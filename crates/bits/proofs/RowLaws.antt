@@ -1,6 +1,6 @@
 -- Laws of words given bit by bit: the word of a set of bits, and a column made row by row.
 use mathlib.Core.Path.{_≡_, refl, sym, ap, _∙_}
-use mathlib.Core.Bool.{Bool, true, false, cond, _&&_, _||_}
+use mathlib.Core.Bool.{Bool, true, false, cond, _&&_, _||_, and-false, and-true, or-false}
 use Prim.Native.Nat.{ℕ, zero, suc, _+_, _^_, _≤_, _<_}
 use native.Mathlib.Decide.{ℕ-discrete, decLt}
 use native.Mathlib.Nat.{pow-suc}
@@ -12,7 +12,7 @@ use borrow.Author.Tests.{eq-eqb, ne-eqb, lt-ltb, le-ltb}
 use Rattle.bits.specs.Bit.{has, withBit, row}
 use Rattle.bits.specs.Sets.{countTo}
 use Rattle.bits.proofs.SetLaws.{count-less}
-use Rattle.bits.proofs.Truth.{and-false, and-yes, or-false, alike}
+use Rattle.bits.proofs.Truth.{alike}
 use Rattle.bits.proofs.BitLaws.{has-high, has-ext, has-with}
 
 -- the word of n bits has n bits
@@ -53,11 +53,11 @@ pub column-on : (isIn : ℕ → Bool) (column next y : ℕ) {v : Bool} → v ≡
 column-on isIn column next y {v} e f g j = g j ∙ rw (f j, e) (go (decLt j y) (decLt y j))
   where
     go : Dec (j < y) → Dec (y < j) → ((ltb j y && isIn j) || (isIn y && eqb y j)) ≡ (ltb j (y + 1) && isIn j)
-    go (yes a) b = rw (lt-ltb j y a, lt-ltb j (y + 1) (omega arith), ne-eqb y j (λ q. omega arith), and-false (isIn y) false refl) (or-false (isIn j))
-    go (no a) (yes b) = rw (le-ltb j y (omega arith), le-ltb j (y + 1) (omega arith), ne-eqb y j (λ q. omega arith)) (and-false (isIn y) false refl)
+    go (yes a) b = rw (lt-ltb j y a, lt-ltb j (y + 1) (omega arith), ne-eqb y j (λ q. omega arith), and-false (isIn y)) (or-false (isIn j))
+    go (no a) (yes b) = rw (le-ltb j y (omega arith), le-ltb j (y + 1) (omega arith), ne-eqb y j (λ q. omega arith)) (and-false (isIn y))
     go (no a) (no b) =
         let same : y ≡ j = omega arith in
-        rw (le-ltb j y (omega arith), lt-ltb j (y + 1) (omega arith), eq-eqb y j same, same) (and-yes (isIn j))
+        rw (le-ltb j y (omega arith), lt-ltb j (y + 1) (omega arith), eq-eqb y j same, same) (and-true (isIn j))
 
 -- a word with as many bits as one inside it is that word
 pub word-same : (w v : ℕ) → w < 2 ^ 64 → v < 2 ^ 64 → ((j : ℕ) → has w j ≡ true → has v j ≡ true) → countTo (has v) 64 ≤ countTo (has w) 64 → w ≡ v

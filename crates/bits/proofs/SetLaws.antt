@@ -8,7 +8,7 @@ use native.Mathlib.Omega.{arith}
 use lib.Dec.{leb, ltb}
 use borrow.Author.Tests.{ltb-true, leb-true, lt-ltb, le-leb}
 use Rattle.bits.specs.Sets.{lowest, countTo, every, some}
-use Rattle.bits.proofs.Truth.{and-true, true-and, and-false, or-elim, or-left, or-right, never, alike}
+use Rattle.bits.proofs.Truth.{both-true, true-both, and-no, or-elim, or-left, or-right, never, alike}
 
 -- r is the lowest of the c numbers from i on that is in p, or i + c
 pub record Lowest (p : ℕ → Bool) (i c r : ℕ) : Type 0 where
@@ -98,7 +98,7 @@ module _ (p : ℕ → Bool) where
   pub every-true : (c : ℕ) → every c p ≡ true → (i : ℕ) → i < c → p i ≡ true
   unfolding every
   every-true zero h i l = absurd (omega arith)
-  every-true (suc c) h i l = go (ℕ-discrete i c) (and-true (every c p) (p c) h) (every-true c)
+  every-true (suc c) h i l = go (ℕ-discrete i c) (both-true (every c p) (p c) h) (every-true c)
     where
       go : Dec (i ≡ c) → (every c p ≡ true) × (p c ≡ true) → (every c p ≡ true → (j : ℕ) → j < c → p j ≡ true) → p i ≡ true
       go (yes e) both rest = ap p e ∙ both .1
@@ -115,7 +115,7 @@ module _ (p : ℕ → Bool) where
   every-false (suc c) i l h = go (ℕ-discrete i c) (λ k. every-false c i k h)
     where
       go : Dec (i ≡ c) → (i < c → every c p ≡ false) → (every c p && p c) ≡ false
-      go (yes e) rest = and-false (every c p) (p c) (ap p (sym e) ∙ h)
+      go (yes e) rest = and-no (every c p) (p c) (ap p (sym e) ∙ h)
       go (no e) rest = rw (rest (omega arith))
 
   pub some-true : (c : ℕ) → some c p ≡ true → (i : ℕ) × (i < c) × (p i ≡ true)
@@ -214,10 +214,10 @@ lowest-past p limit c =
     (λ h.
     let l = ltb-true r c h in
     let f = found .from in
-    true-some (λ j. leb limit j && p j) c r l (true-and (leb limit r) (p r) (le-leb limit r f) (found .found (omega arith))))
+    true-some (λ j. leb limit j && p j) c r l (true-both (leb limit r) (p r) (le-leb limit r f) (found .found (omega arith))))
     (λ h.
     let e = some-true (λ j. leb limit j && p j) c h in
-    let q = and-true (leb limit (e .0)) (p (e .0)) (e .2) in
+    let q = both-true (leb limit (e .0)) (p (e .0)) (e .2) in
     lt-ltb r c (omega (arith, e .1, lowest-least p found (e .0) (leb-true limit (e .0) (q .0)) (q .1))))
   where
     r : ℕ

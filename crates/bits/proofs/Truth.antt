@@ -5,26 +5,19 @@ use Prim.Native.Nat.{ℕ, _<_}
 use native.Mathlib.Decide.{decLt}
 use native.Mathlib.Omega.{arith}
 use lib.Dec.{leb, ltb}
-use borrow.Author.Tests.{lt-leb, le-leb, lt-ltb, le-ltb}
+use borrow.Author.Tests.{lt-leb, le-leb, lt-ltb, le-ltb, not-true}
 
-pub and-true : (a b : Bool) → (a && b) ≡ true → (a ≡ true) × (b ≡ true)
-and-true true b h = (refl, h)
-and-true false b h = absurd (true≢false (sym h))
+-- both are yes
+pub both-true : (a b : Bool) → (a && b) ≡ true → (a ≡ true) × (b ≡ true)
+both-true true b h = (refl, h)
+both-true false b h = absurd (true≢false (sym h))
 
-pub true-and : (a b : Bool) → a ≡ true → b ≡ true → (a && b) ≡ true
-true-and a b h g = rw (h, g)
+pub true-both : (a b : Bool) → a ≡ true → b ≡ true → (a && b) ≡ true
+true-both a b h g = rw (h, g)
 
-pub and-false : (a b : Bool) → b ≡ false → (a && b) ≡ false
-and-false true b h = h
-and-false false b h = refl
-
-pub and-yes : (a : Bool) → (a && true) ≡ a
-and-yes true = refl
-and-yes false = refl
-
-pub and-assoc : (a b c : Bool) → ((a && b) && c) ≡ (a && (b && c))
-and-assoc true b c = refl
-and-assoc false b c = refl
+pub and-no : (a b : Bool) → b ≡ false → (a && b) ≡ false
+and-no true b h = h
+and-no false b h = refl
 
 pub or-elim : {C : Type 0} (a b : Bool) → (a || b) ≡ true → (a ≡ true → C) → (b ≡ true → C) → C
 or-elim true b h f g = f refl
@@ -36,22 +29,6 @@ or-left a b h = rw h
 pub or-right : (a b : Bool) → b ≡ true → (a || b) ≡ true
 or-right true b h = refl
 or-right false b h = h
-
-pub or-false : (a : Bool) → (a || false) ≡ a
-or-false true = refl
-or-false false = refl
-
-pub or-assoc : (a b c : Bool) → ((a || b) || c) ≡ (a || (b || c))
-or-assoc true b c = refl
-or-assoc false b c = refl
-
-pub not-true : (a : Bool) → not a ≡ true → a ≡ false
-not-true true h = sym h
-not-true false h = refl
-
-pub not-false : (a : Bool) → not a ≡ false → a ≡ true
-not-false true h = refl
-not-false false h = sym h
 
 -- yes is not no
 pub never : {C : Type 0} {a : Bool} → a ≡ true → a ≡ false → C

@@ -1,13 +1,13 @@
 -- Laws of marks that are not 128 bytes: no words are judged, and every call refuses as the question check does.
 use mathlib.Core.Path.{_≡_, refl, _∙_}
-use mathlib.Core.Bool.{Bool, true, false, cond, not, _&&_, _||_}
+use mathlib.Core.Bool.{Bool, true, false, cond, not, _&&_, _||_, and-false}
 use mathlib.Core.List.{List, []}
 use Prim.Native.Nat.{ℕ}
 use native.Mathlib.Omega.{arith}
 use lib.Dec.{eqb}
 use lib.ListN.{length}
 use borrow.Author.Tests.{eqb-true, ne-eqb}
-use Rattle.bits.proofs.Truth.{and-false, never}
+use Rattle.bits.proofs.Truth.{never}
 use Rattle.marks.specs.Marks.{marksFit}
 use Rattle.pack.specs.declared.check.Checked.{Checked}
 use Rattle.pack.specs.declared.check.Checked.the-variants.{Refused, Count}
@@ -44,7 +44,7 @@ none-fit marks out h count = go (eqb (length marks) 128) (eqb (length out) 128) 
   where
     go : (t u : Bool) → (not t || not u) ≡ true → (marksFit (cond t (wordsIn marks) []) count && eqb (length (cond u (wordsIn out) [])) 16) ≡ false
     go true true h = never h refl
-    go true false h = and-false (marksFit (wordsIn marks) count) false refl
+    go true false h = and-false (marksFit (wordsIn marks) count)
     go false u h = refl
 
 pub read-both : (marks out : ℕ) → (not (eqb marks 128) || not (eqb out 128)) ≡ false → (marks ≡ 128) × (out ≡ 128)

@@ -1,6 +1,6 @@
 -- Laws of marks changed: the places below a number as a word, a range cut out, one place taken off.
 use mathlib.Core.Path.{_≡_, refl, sym, ap, _∙_, fun-ext}
-use mathlib.Core.Bool.{Bool, true, false, not, _&&_, _||_}
+use mathlib.Core.Bool.{Bool, true, false, not, _&&_, _||_, and-false, and-true}
 use mathlib.Core.List.{List}
 use Prim.Native.Nat.{ℕ, _+_, _-_, _*_, _/_, _%_, _^_, _≤_, _<_}
 use native.Mathlib.Decide.{ℕ-discrete, decLt}
@@ -12,7 +12,7 @@ use lib.Pow.{pow-pos}
 use lib.Seq.{getD-set-same, getD-set-other}
 use borrow.Author.Tests.{lt-ltb, le-ltb, le-leb, lt-leb, eq-eqb, ne-eqb}
 use Rattle.bits.specs.Bit.{has}
-use Rattle.bits.proofs.Truth.{and-true, and-false, and-yes, never}
+use Rattle.bits.proofs.Truth.{both-true, never}
 use Rattle.bits.proofs.BitLaws.{has-zero, has-high, has-and, has-or, has-not-word, one-shl}
 use Rattle.marks.specs.Marks.{marked, marksOf, cutOut}
 use Rattle.marks.proofs.MarkLaws.{at-word, unmarked-past}
@@ -64,19 +64,19 @@ module _ (P : ℕ → Bool) (i k : ℕ) where
   -- outside the range all is as it was; inside it nothing is left
   pub cut-before : (j : ℕ) → j < i → cutOut P i k j ≡ P j
   unfolding cutOut
-  cut-before j h = rw (lt-leb i j h) (and-yes (P j))
+  cut-before j h = rw (lt-leb i j h) (and-true (P j))
 
   pub cut-after : (j : ℕ) → k ≤ j → cutOut P i k j ≡ P j
   unfolding cutOut
-  cut-after j h = rw (le-ltb j k h, and-false (leb i j) false refl) (and-yes (P j))
+  cut-after j h = rw (le-ltb j k h, and-false (leb i j)) (and-true (P j))
 
   pub cut-gone : (j : ℕ) → i ≤ j → j < k → cutOut P i k j ≡ false
   unfolding cutOut
-  cut-gone j h g = rw (le-leb i j h, lt-ltb j k g) (and-false (P j) false refl)
+  cut-gone j h g = rw (le-leb i j h, lt-ltb j k g) (and-false (P j))
 
   pub cut-fewer : (j : ℕ) → cutOut P i k j ≡ true → P j ≡ true
   unfolding cutOut
-  cut-fewer j h = and-true (P j) (not (leb i j && ltb j k)) h .0
+  cut-fewer j h = both-true (P j) (not (leb i j && ltb j k)) h .0
 
 -- A RANGE CUT OUT OF MARKS is cut out of the places they mark
 pub cut-marked : (ws : List ℕ) (i k : ℕ) → length ws ≡ 16 → marked (marksOf (cutOut (marked ws) i k)) ≡ cutOut (marked ws) i k
@@ -113,7 +113,7 @@ module _ (ws : List ℕ) (i : ℕ) (h : i / 64 < length ws) where
           at-word (set ws (i / 64) w) k (k / 64) (k % 64) refl refl
           ∙ ap (λ (v : ℕ). has v (k % 64)) (getD-set-other ws (i / 64) (k / 64) w 0 e)
           ∙ sym (at-word ws k (k / 64) (k % 64) refl refl)
-          ∙ rw (ne-eqb i k (λ z. e (ap (λ (x : ℕ). x / 64) (sym z)))) (sym (and-yes (marked ws k)))
+          ∙ rw (ne-eqb i k (λ z. e (ap (λ (x : ℕ). x / 64) (sym z)))) (sym (and-true (marked ws k)))
 
 -- a place past the words is not marked, so nothing is to be done
 pub none-off : (ws : List ℕ) (i : ℕ) → length ws ≤ i / 64 → (k : ℕ) → marked ws k ≡ (marked ws k && not (eqb i k))
@@ -121,4 +121,4 @@ none-off ws i h k = go (ℕ-discrete i k)
   where
     go : Dec (i ≡ k) → marked ws k ≡ (marked ws k && not (eqb i k))
     go (yes e) = rw (← e, unmarked-past ws i h)
-    go (no e) = rw (ne-eqb i k e) (sym (and-yes (marked ws k)))
+    go (no e) = rw (ne-eqb i k e) (sym (and-true (marked ws k)))

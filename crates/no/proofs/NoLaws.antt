@@ -7,11 +7,11 @@ use native.Mathlib.Nat.{mul-add, mul-one, mul-comm, mul-assoc, suc-mul, mul-le-m
 use native.Mathlib.Omega.{arith}
 use lib.Dec.{eqb, ltb, leb}
 use lib.ListN.{length}
-use borrow.Author.Tests.{le-ltb, ltb-true, ltb-false, leb-true, le-leb}
+use borrow.Author.Tests.{le-ltb, ltb-true, ltb-false, leb-true, le-leb, not-true, not-false}
 use Rattle.bits.specs.Bit.{has}
 use Rattle.bits.specs.Sets.{some}
 use Rattle.bits.proofs.Promises.{no-second}
-use Rattle.bits.proofs.Truth.{and-true, true-and, not-true, not-false, never}
+use Rattle.bits.proofs.Truth.{both-true, true-both, never}
 use Rattle.bits.proofs.SetLaws.{Lowest, lowest-is, lowest-none, none-lowest, some-true, true-some}
 use Rattle.pack.specs.declared.check.Refusal.{Refusal}
 use Rattle.pack.specs.declared.check.Checked.{Checked}
@@ -67,7 +67,7 @@ module _ (n m k : ℕ) (sheet : List ℕ) (few : k ≤ 64) (whole : length sheet
           let far : i < rowsOf m k = omega (arith, role-rows r h) in
           let clean = lowest-none (forbidden n k sheet) 0 (rowsOf m k) (e ∙ sym (zero-add (rowsOf m k))) i (omega arith) (omega arith) in
           never
-          (rw (le-ltb i k (omega arith)) (true-some (λ j. leb k j && has (rowAt sheet i) j) 64 y b (true-and (leb k y) (has (rowAt sheet i) y) (le-leb k y ly) g)))
+          (rw (le-ltb i k (omega arith)) (true-some (λ j. leb k j && has (rowAt sheet i) j) 64 y b (true-both (leb k y) (has (rowAt sheet i) y) (le-leb k y ly) g)))
           clean
 
   line-fits : n ≤ 64 → lowestForbidden n m k sheet ≡ rowsOf m k → (l : Line) → ValidLine n m l → LineFits k sheet l
@@ -94,7 +94,7 @@ refuting : (w : World) (a b : ℕ) → refutes w a b ≡ true → (x : ℕ) × (
 unfolding refutes
 refuting w a b h =
     let e = some-true (λ x. w .isIn x a && not (w .isIn x b)) (w .things) h in
-    let p = and-true (w .isIn (e .0) a) (not (w .isIn (e .0) b)) (e .2) in
+    let p = both-true (w .isIn (e .0) a) (not (w .isIn (e .0) b)) (e .2) in
     (e .0, e .1, p .0, not-true (w .isIn (e .0) b) (p .1))
 
 refuted : (w : World) (a b x : ℕ) → x < w .things → Is w x a → w .isIn x b ≡ false → refutes w a b ≡ true
@@ -182,7 +182,7 @@ module _ (n m : ℕ) (s ws : List ℕ) (a b : ℕ) (sheet : List ℕ) where
       go (at-goal _ _) q = let z : _≡_ {A = ℕ} 0 1 = cc in omega arith
       go (at-end fit _ p g) q =
           let t = refuting w a b g in
-          let some = leb-true 1 k (and-true (leb 1 k) (leb k 64) (and-true (eqb (length sheet % (8 * (1 + m))) 0) (leb 1 k && leb k 64) fit .1) .0) in
+          let some = leb-true 1 k (both-true (leb 1 k) (leb k 64) (both-true (eqb (length sheet % (8 * (1 + m))) 0) (leb 1 k && leb k 64) fit .1) .0) in
           never (f w some (none-broken w (linesOf s) (counted s ws) p) (t .0) (t .1) (t .2)) (t .3)
 
   -- A SHEET THAT KEEPS THE RULES IS ACCEPTED
@@ -227,7 +227,7 @@ module _ (n m : ℕ) (s ws : List ℕ) (a b : ℕ) (sheet : List ℕ) where
       go (at-place r h) q =
           let same : place ≡ i = cc in
           let found = first w (linesOf s) (counted s ws) in
-          let here = and-true (counted s ws place) (not (obeys w (lineAt (linesOf s) place))) (found .found (omega (arith, zero-add (length (linesOf s))))) in (
+          let here = both-true (counted s ws place) (not (obeys w (lineAt (linesOf s) place))) (found .found (omega (arith, zero-add (length (linesOf s))))) in (
             omega arith,
             rw (← same) (here .0),
             rw (← same) (not-true (obeys w (lineAt (linesOf s) place)) (here .1)),

@@ -1,6 +1,6 @@
 -- Laws of rows: searches and tests over 64 bits, and over the k things that a row speaks of.
 use mathlib.Core.Path.{_≡_, refl, sym, ap, _∙_}
-use mathlib.Core.Bool.{Bool, true, false, not, _&&_}
+use mathlib.Core.Bool.{Bool, true, false, not, _&&_, and-true}
 use Prim.Native.Nat.{ℕ, suc, _-_, _^_, _≤_, _<_}
 use native.Mathlib.Decide.{decLt}
 use native.Mathlib.Omega.{arith, by-contra}
@@ -9,7 +9,7 @@ use lib.Dec.{eqb}
 use borrow.Author.Tests.{eq-eqb, ne-eqb, eqb-true, eqb-false}
 use Rattle.bits.specs.Bit.{has}
 use Rattle.bits.specs.Sets.{lowest, every, some}
-use Rattle.bits.proofs.Truth.{and-false, and-yes, alike, never}
+use Rattle.bits.proofs.Truth.{and-no, alike, never}
 use Rattle.bits.proofs.SetLaws.{Lowest, lowest-is, lowest-at, every-true, true-every, every-false, some-true, true-some, some-false}
 use Rattle.bits.proofs.BitLaws.{meets-none, none-meets, contained, contains}
 use Rattle.pack.specs.World.{implies}
@@ -97,12 +97,12 @@ module _ (w : ℕ) (ok : ℕ → Bool) where
       left j = rw (lowest-at (has rest) (p .2)) (g j)
 
       later : (j : ℕ) → y < j → has next j ≡ has w j
-      later j l = left j ∙ rw (ne-eqb y j (λ q. omega arith), and-yes) (p .1 j (omega arith))
+      later j l = left j ∙ rw (ne-eqb y j (λ q. omega arith), and-true) (p .1 j (omega arith))
 
       -- none of them is at y or before
       gone : (j : ℕ) → Dec (j < y) → j ≤ y → has next j ≡ false
       gone j (yes l) k = left j ∙ rw (p .2 .none j (omega arith) l)
-      gone j (no l) k = left j ∙ and-false (has rest j) _ (rw (eq-eqb y j (omega arith)))
+      gone j (no l) k = left j ∙ and-no (has rest j) _ (rw (eq-eqb y j (omega arith)))
 
       past-y : y < r
       past-y = by-contra (suc y) r (λ l. never (f .found (omega arith)) (gone r (decLt r y) (omega arith)))

@@ -8,7 +8,7 @@ use native.Mathlib.Omega.{arith}
 use borrow.Author.Tests.{lt-ltb, le-ltb}
 use Rattle.bits.specs.Bit.{has}
 use Rattle.bits.specs.Sets.{every, some}
-use Rattle.bits.proofs.Truth.{and-false, never}
+use Rattle.bits.proofs.Truth.{and-no, never}
 use Rattle.bits.proofs.SetLaws.{every-same}
 use Rattle.pack.specs.World.{implies}
 use Rattle.pack.proofs.WorldLaws.{true-implies}
@@ -29,7 +29,7 @@ pub meets-things : (k : ℕ) (sheet : List ℕ) (links column a : ℕ) → k ≤
 meets-things k sheet links column a h col =
     some-things (λ y. has links y && has column y) (λ y. has links y && has (rowAt sheet y) a) k h
     (λ j l. ap (λ (t : Bool). has links j && t) (col j ∙ ap (λ (t : Bool). t && has (rowAt sheet j) a) (lt-ltb j k l)))
-    (λ j l. and-false (has links j) (has column j) (col j ∙ ap (λ (t : Bool). t && has (rowAt sheet j) a) (le-ltb j k l)))
+    (λ j l. and-no (has links j) (has column j) (col j ∙ ap (λ (t : Bool). t && has (rowAt sheet j) a) (le-ltb j k l)))
 
 pub inside-things : (k : ℕ) (sheet : List ℕ) (s y other : ℕ) → k ≤ 64 → RoleFits k sheet s → y < k → every 64 (λ z. implies (has (rowAt sheet (k + (s * k + y))) z) (has other z)) ≡ every k (λ z. implies (has (rowAt sheet (k + (s * k + y))) z) (has other z))
 inside-things k sheet s y other h f l =

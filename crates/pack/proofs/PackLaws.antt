@@ -7,10 +7,10 @@ use native.Mathlib.Nat.{zero-add}
 use native.Mathlib.Omega.{arith}
 use lib.Dec.{ltb, leb, eqb}
 use lib.ListN.{length}
-use borrow.Author.Tests.{ltb-true, ltb-false, leb-true, eqb-true, lt-ltb, le-ltb, le-leb, eq-eqb}
+use borrow.Author.Tests.{ltb-true, ltb-false, leb-true, eqb-true, lt-ltb, le-ltb, le-leb, eq-eqb, not-true, not-false}
 use Rattle.bits.specs.Sets.{lowest}
 use Rattle.bits.proofs.SetLaws.{Lowest, lowest-is, lowest-at, lowest-on, lowest-here, lowest-end}
-use Rattle.bits.proofs.Truth.{and-true, not-true, not-false}
+use Rattle.bits.proofs.Truth.{both-true}
 use Rattle.pack.specs.declared.check.Refusal.the-variants.{Sizes, Pack, Record}
 use Rattle.pack.specs.declared.check.Checked.{Checked}
 use Rattle.pack.specs.declared.check.Checked.the-variants.{Refused, Count}
@@ -77,9 +77,9 @@ module _ (n m : ℕ) (s : List ℕ) where
       (λ p g. let z : _≡_ {A = ℕ} 0 1 = cc in absurd (omega arith))
       (λ p q t g. let z : _≡_ {A = ℕ} 0 1 = cc in absurd (omega arith))
       (λ p q t g.
-      let a = and-true (leb 1 n && leb n 64) (leb m 8) p in
-      let b = and-true (leb 1 n) (leb n 64) (a .0) in
-      let d = and-true (eqb (length s % 8) 0) (leb (length s) 8192) q in
+      let a = both-true (leb 1 n && leb n 64) (leb m 8) p in
+      let b = both-true (leb 1 n) (leb n 64) (a .0) in
+      let d = both-true (eqb (length s % 8) 0) (leb (length s) 8192) q in
       let l : recordCount s ≤ lowestUnkept n m s = ltb-false (lowestUnkept n m s) (recordCount s) t in
       record {
         n-some = leb-true 1 n (b .0);

@@ -7,7 +7,7 @@ use native.Mathlib.Omega.{arith}
 use lib.Dec.{ltb}
 use lib.ListN.{length}
 use borrow.Author.Tests.{ltb-true, lt-ltb}
-use Rattle.bits.proofs.Truth.{and-true, never}
+use Rattle.bits.proofs.Truth.{both-true, never}
 use Rattle.marks.specs.Marks.{marksFit, marked}
 use Rattle.marks.proofs.MarkLaws.{Fit, fit, fits}
 use Rattle.pack.specs.declared.check.Refusal.the-variants.{Marks, Goal}
@@ -33,7 +33,7 @@ asked n m s ws a b {k} = after (checkPack n m s) refl
     goal : (j : ℕ) → checkPack n m s ≡ Count j → marksFit ws j ≡ true → (t : Bool) → goalFits n a b ≡ t → cond t (Count j) (Refused Goal) ≡ Count k → Asked n m s ws a b k
     goal j e f true g h =
         let same : j ≡ k = cc in
-        let p = and-true (ltb a n) (ltb b n) g in
+        let p = both-true (ltb a n) (ltb b n) g in
         rw (← same)
         (record {
           pack = accepted n m s e;

@@ -8,7 +8,7 @@ use native.Mathlib.Omega.{arith}
 use lib.Dec.{eqb, ltb}
 use lib.ListN.{length, getD}
 use borrow.Author.Tests.{ltb-true}
-use Rattle.bits.proofs.Truth.{and-true, never}
+use Rattle.bits.proofs.Truth.{both-true, never}
 use Rattle.bits.proofs.ListLaws.{listed-length, listed-at}
 use Rattle.pack.specs.declared.line.Line.{Line}
 use Rattle.pack.specs.declared.line.Line.the-variants.{Under, BothUnder, UnderSome, SomeUnder, RoleUnder, ChainUnder, NoLine}
@@ -31,8 +31,8 @@ line-read s i h e = lines-at s i h ∙ sym e
 
 two : {x a y b : ℕ} {t : Bool} → (ltb x a && ltb y b && t) ≡ true → (x < a) × (y < b) × (t ≡ true)
 two {x} {a} {y} {b} {t} h =
-    let p = and-true (ltb x a && ltb y b) t h in
-    let q = and-true (ltb x a) (ltb y b) (p .0) in
+    let p = both-true (ltb x a && ltb y b) t h in
+    let q = both-true (ltb x a) (ltb y b) (p .0) in
     (ltb-true x a (q .0), ltb-true y b (q .1), p .1)
 
 three : {x a y b z c : ℕ} → (ltb x a && ltb y b && ltb z c) ≡ true → (x < a) × (y < b) × (z < c)

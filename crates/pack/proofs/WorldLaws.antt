@@ -3,7 +3,7 @@ use mathlib.Core.Path.{_≡_, refl}
 use mathlib.Core.Bool.{Bool, true, false, _&&_}
 use Prim.Native.Nat.{ℕ, _<_}
 use Rattle.bits.specs.Sets.{every, some}
-use Rattle.bits.proofs.Truth.{and-true, true-and, never}
+use Rattle.bits.proofs.Truth.{both-true, true-both, never}
 use Rattle.bits.proofs.SetLaws.{every-true, true-every, some-true, true-some}
 use Rattle.pack.specs.declared.line.Line.{Line}
 use Rattle.pack.specs.declared.line.Line.the-variants.{Under, BothUnder, UnderSome, SomeUnder, RoleUnder, ChainUnder, NoLine}
@@ -27,18 +27,18 @@ module _ (w : World) where
   some-link : (x r b : ℕ) → Some x r b ≡ true → (y : ℕ) × (y < w .things) × To w x r y × Is w y b
   some-link x r b h =
       let e = some-true (λ y. w .linked x r y && w .isIn y b) (w .things) h in
-      let f = and-true (w .linked x r (e .0)) (w .isIn (e .0) b) (e .2) in
+      let f = both-true (w .linked x r (e .0)) (w .isIn (e .0) b) (e .2) in
       (e .0, e .1, f .0, f .1)
 
   link-some : (x r b y : ℕ) → y < w .things → To w x r y → Is w y b → Some x r b ≡ true
-  link-some x r b y l p q = true-some (λ y. w .linked x r y && w .isIn y b) (w .things) y l (true-and (w .linked x r y) (w .isIn y b) p q)
+  link-some x r b y l p q = true-some (λ y. w .linked x r y && w .isIn y b) (w .things) y l (true-both (w .linked x r y) (w .isIn y b) p q)
 
   -- THE TEST SAYS YES only of a world that obeys
   pub obeys-line : (l : Line) → obeys w l ≡ true → ObeysLine w l
   unfolding obeys obeysAt
   obeys-line (Under a b) h = λ x k. implies-true (w .isIn x a) (w .isIn x b) (every-true (obeysAt w (Under a b)) (w .things) h x k)
   obeys-line (BothUnder a₁ a₂ b) h = λ x k p q.
-      implies-true (w .isIn x a₁ && w .isIn x a₂) (w .isIn x b) (every-true (obeysAt w (BothUnder a₁ a₂ b)) (w .things) h x k) (true-and (w .isIn x a₁) (w .isIn x a₂) p q)
+      implies-true (w .isIn x a₁ && w .isIn x a₂) (w .isIn x b) (every-true (obeysAt w (BothUnder a₁ a₂ b)) (w .things) h x k) (true-both (w .isIn x a₁) (w .isIn x a₂) p q)
   obeys-line (UnderSome a r b) h = λ x k p.
       some-link x r b (implies-true (w .isIn x a) (Some x r b) (every-true (obeysAt w (UnderSome a r b)) (w .things) h x k) p)
   obeys-line (SomeUnder r a b) h = λ x y k l p q.
@@ -60,7 +60,7 @@ module _ (w : World) where
   line-obeys (Under a b) o = true-every (obeysAt w (Under a b)) (w .things) (λ x k. true-implies (w .isIn x a) (w .isIn x b) (o x k))
   line-obeys (BothUnder a₁ a₂ b) o =
       true-every (obeysAt w (BothUnder a₁ a₂ b)) (w .things)
-      (λ x k. true-implies (w .isIn x a₁ && w .isIn x a₂) (w .isIn x b) (λ p. let q = and-true (w .isIn x a₁) (w .isIn x a₂) p in o x k (q .0) (q .1)))
+      (λ x k. true-implies (w .isIn x a₁ && w .isIn x a₂) (w .isIn x b) (λ p. let q = both-true (w .isIn x a₁) (w .isIn x a₂) p in o x k (q .0) (q .1)))
   line-obeys (UnderSome a r b) o =
       true-every (obeysAt w (UnderSome a r b)) (w .things)
       (λ x k. true-implies (w .isIn x a) (Some x r b) (λ p. let e = o x k p in link-some x r b (e .0) (e .1) (e .2) (e .3)))

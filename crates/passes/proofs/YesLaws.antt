@@ -9,7 +9,7 @@ use lib.Dec.{eqb, ltb}
 use lib.ListN.{length, getD, take, length-reverse, List·getD-append}
 use lib.Seq.{take-append-le, take-at, getD-at}
 use borrow.Author.Tests.{lt-ltb}
-use Rattle.bits.proofs.Truth.{and-true, true-and, or-elim, or-left, or-right, never}
+use Rattle.bits.proofs.Truth.{both-true, true-both, or-elim, or-left, or-right, never}
 use Rattle.pack.specs.declared.line.Line.{Line}
 use Rattle.pack.specs.declared.line.Fact.{Fact}
 use Rattle.pack.specs.declared.line.Fact.the-variants.{In}
@@ -64,8 +64,8 @@ module _ (ls : List Line) (S : ℕ → Bool) (n : ℕ) where
       let s = getD (reverse st) i d in
       let a : Added (el ls) (free n) (Usable ls S n) (r .0) s = built-later (el ls) (free n) (Usable ls S n) (r .2) b .0 in (
         a .taken,
-        rw (r .1) (true-and (usable ls S n s) (known ls n (reverse (r .0)) (premiseOneOf ls s) && known ls n (reverse (r .0)) (premiseTwoOf ls s)) (is-usable (a .taken))
-            (true-and (known ls n (reverse (r .0)) (premiseOneOf ls s)) (known ls n (reverse (r .0)) (premiseTwoOf ls s))
+        rw (r .1) (true-both (usable ls S n s) (known ls n (reverse (r .0)) (premiseOneOf ls s) && known ls n (reverse (r .0)) (premiseTwoOf ls s)) (is-usable (a .taken))
+            (true-both (known ls n (reverse (r .0)) (premiseOneOf ls s)) (known ls n (reverse (r .0)) (premiseTwoOf ls s))
             (known-holds ls n (r .0) (premiseOneOf ls s) ∙ a .first) (known-holds ls n (r .0) (premiseTwoOf ls s) ∙ a .second))),
       )
 
@@ -86,12 +86,12 @@ module _ (ls : List Line) (S : ℕ → Bool) (n m a b : ℕ) (valid : Valid n m 
         list = [];
         built = tt;
         ours = ours-none ls S n m a b e;
-        goal = or-left (free n (In a b)) (said (el ls) [] (In a b)) (true-and (eqb a b) (ltb a n) e (lt-ltb a n ha));
+        goal = or-left (free n (In a b)) (said (el ls) [] (In a b)) (true-both (eqb a b) (ltb a n) e (lt-ltb a n ha));
       }
       go false e =
           let end = finished ls S n m in
           let k : said (el ls) end (In a b) ≡ true =
-          or-elim (free n (In a b)) (said (el ls) end (In a b)) h (λ k. never (and-true (eqb a b) (ltb a n) k .0) e) (λ k. k) in
+          or-elim (free n (In a b)) (said (el ls) end (In a b)) h (λ k. never (both-true (eqb a b) (ltb a n) k .0) e) (λ k. k) in
           let r = first-reached ls (In a b) end k in
           record {
             list = r .0;

@@ -7,7 +7,7 @@ use Prim.Native.Nat.{ℕ, _≤_, _<_}
 use lib.Dec.{eqb, ltb}
 use lib.ListN.{length}
 use borrow.Author.Tests.{eqb-true}
-use Rattle.bits.proofs.Truth.{and-true, true-and, never}
+use Rattle.bits.proofs.Truth.{both-true, true-both, never}
 use Rattle.pack.specs.declared.line.Line.{Line}
 use Rattle.pack.specs.declared.line.Line.the-variants.{Under, BothUnder, UnderSome, SomeUnder, RoleUnder, ChainUnder, NoLine}
 use Rattle.pack.specs.declared.line.Fact.{Fact}
@@ -36,15 +36,15 @@ Said R (Link x r y) = (R (role r) ≡ true) × (R (concept y) ≡ true)
 module _ (R : Name → Bool) where
   all-one : (x : Name) → R x ≡ true → allIn R (x ∷ []) ≡ true
   unfolding allIn
-  all-one x h = true-and (R x) true h refl
+  all-one x h = true-both (R x) true h refl
 
   all-both : (x y : Name) → R x ≡ true → R y ≡ true → allIn R (x ∷ y ∷ []) ≡ true
   unfolding allIn
-  all-both x y h g = true-and (R x) (R y && true) h (true-and (R y) true g refl)
+  all-both x y h g = true-both (R x) (R y && true) h (true-both (R y) true g refl)
 
   head : (x : Name) (xs : List Name) → allIn R (x ∷ xs) ≡ true → (R x ≡ true) × (allIn R xs ≡ true)
   unfolding allIn
-  head x xs h = and-true (R x) (allIn R xs) h
+  head x xs h = both-true (R x) (allIn R xs) h
 
   -- one step about a reached X: the left side is reached, premise two is about a reached concept, and with the right side the conclusion is said
   step-said : (l : Line) (x y z : ℕ) → R (concept x) ≡ true → Said R (premiseOne l x y) → (R (concept (about (premiseTwo l x y z))) ≡ true → Said R (premiseTwo l x y z))
@@ -76,7 +76,7 @@ Going ls S R = (i : ℕ) → i < length ls → S i ≡ true → allIn R (leftNam
 
 free-said : (R : Name → Bool) (n : ℕ) (f : Fact) → free n f ≡ true → R (concept (about f)) ≡ true → Said R f
 unfolding free
-free-said R n (In x b) h k = subst (λ (c : ℕ). R (concept c) ≡ true) (eqb-true x b (and-true (eqb x b) (ltb x n) h .0)) k
+free-said R n (In x b) h k = subst (λ (c : ℕ). R (concept c) ≡ true) (eqb-true x b (both-true (eqb x b) (ltb x n) h .0)) k
 free-said R n (Link x r y) h k = never h refl
 
 module _ (ls : List Line) (S : ℕ → Bool) (R : Name → Bool) (n : ℕ) (goes : Going ls S R) where
@@ -98,11 +98,11 @@ module _ (ls : List Line) (S : ℕ → Bool) (R : Name → Bool) (n : ℕ) (goes
 module _ (ls : List Line) (S : ℕ → Bool) (R : Name → Bool) where
   pub inside-true : (i : ℕ) → moduleIn ls S R i ≡ true → (S i ≡ true) × (allIn R (leftNames (lineAt ls i)) ≡ true)
   unfolding moduleIn
-  inside-true i h = and-true (S i) (allIn R (leftNames (lineAt ls i))) h
+  inside-true i h = both-true (S i) (allIn R (leftNames (lineAt ls i))) h
 
   true-inside : (i : ℕ) → S i ≡ true → allIn R (leftNames (lineAt ls i)) ≡ true → moduleIn ls S R i ≡ true
   unfolding moduleIn
-  true-inside i h g = true-and (S i) (allIn R (leftNames (lineAt ls i))) h g
+  true-inside i h g = true-both (S i) (allIn R (leftNames (lineAt ls i))) h g
 
 module _ (ls : List Line) (n m a b : ℕ) (valid : Valid n m ls) (pos : 1 ≤ n) (ha : a < n) (R : Name → Bool) (start : R (concept a) ≡ true) where
   going-follows : (S : ℕ → Bool) → Going ls S R → Follows ls S a b → Follows ls (moduleIn ls S R) a b

@@ -1,6 +1,6 @@
 -- Laws of the names as bits: what a line adds, what a pass over the marked lines makes of them, and that each pass but the last adds one.
 use mathlib.Core.Path.{_≡_, refl, sym, ap, ap₂, _∙_, subst}
-use mathlib.Core.Bool.{Bool, true, false, cond, not, _&&_, _||_}
+use mathlib.Core.Bool.{Bool, true, false, cond, not, _&&_, _||_, or-false}
 use mathlib.Core.List.{List, [], _∷_}
 use Prim.Native.Nat.{ℕ, suc, _+_, _-_, _^_, _≤_, _<_}
 use native.Mathlib.Decide.{decLt, ℕ-discrete}
@@ -10,7 +10,7 @@ use lib.ListN.{length}
 use borrow.Author.Tests.{eqb-true, eq-eqb}
 use Rattle.bits.specs.Bit.{has}
 use Rattle.bits.specs.Sets.{countTo}
-use Rattle.bits.proofs.Truth.{and-true, true-and, or-elim, or-left, or-right, or-false, never}
+use Rattle.bits.proofs.Truth.{both-true, true-both, or-elim, or-left, or-right, never}
 use Rattle.bits.proofs.BitLaws.{has-with, has-zero}
 use Rattle.bits.proofs.SetLaws.{Lowest, count-le, count-fewer}
 use Rattle.bits.proofs.RowLaws.{word-same}
@@ -49,21 +49,21 @@ unfolding allIn
 names-there [] ns = refl
 names-there (x ∷ xs) ns =
     let ms = withNames (withName ns x) xs in
-    true-and (nameIn ms x) (allIn (nameIn ms) xs) (names-keep xs (withName ns x) x (name-there ns x)) (names-there xs (withName ns x))
+    true-both (nameIn ms x) (allIn (nameIn ms) xs) (names-keep xs (withName ns x) x (name-there ns x)) (names-there xs (withName ns x))
 
 names-least : (xs : List Name) (ns : Names) (Q : Name → Bool) → Inside (nameIn ns) Q → allIn Q xs ≡ true → Inside (nameIn (withNames ns xs)) Q
 unfolding allIn
 names-least [] ns Q h g = h
 names-least (x ∷ xs) ns Q h g =
-    let p = and-true (Q x) (allIn Q xs) g in
+    let p = both-true (Q x) (allIn Q xs) g in
     names-least xs (withName ns x) Q (name-least ns x Q h (p .0)) (p .1)
 
 all-inside : (R R′ : Name → Bool) → Inside R R′ → (xs : List Name) → allIn R xs ≡ true → allIn R′ xs ≡ true
 unfolding allIn
 all-inside R R′ h [] g = refl
 all-inside R R′ h (x ∷ xs) g =
-    let p = and-true (R x) (allIn R xs) g in
-    true-and (R′ x) (allIn R′ xs) (h x (p .0)) (all-inside R R′ h xs (p .1))
+    let p = both-true (R x) (allIn R xs) g in
+    true-both (R′ x) (allIn R′ xs) (h x (p .0)) (all-inside R R′ h xs (p .1))
 
 -- ONE LINE
 line-keeps : (ns : Names) (l : Line) → Inside (nameIn ns) (nameIn (withLine ns l))
@@ -100,7 +100,7 @@ module _ (ls : List Line) (T : ℕ → Bool) (R : Name → Bool) where
   module _ (i : ℕ) (ns : Names) (T′ T″ : ℕ → Bool) (p : Passed ls T T′ i R (nameIn ns)) (there : i < length ls) (here : T′ i ≡ true)
       (off : (k : ℕ) → T″ k ≡ (T′ k && not (allIn (nameIn ns) (leftNames (lineAt ls i)) && eqb i k))) where
     line-fewer : (k : ℕ) → T″ k ≡ true → T′ k ≡ true
-    line-fewer k h = and-true (T′ k) (not (allIn (nameIn ns) (leftNames (lineAt ls i)) && eqb i k)) (sym (off k) ∙ h) .0
+    line-fewer k h = both-true (T′ k) (not (allIn (nameIn ns) (leftNames (lineAt ls i)) && eqb i k)) (sym (off k) ∙ h) .0
 
     -- a place that goes is this one, and it is reached
     line-off : (k : ℕ) → T′ k ≡ true → T″ k ≡ false → (allIn (nameIn ns) (leftNames (lineAt ls i)) ≡ true) × (i ≡ k)
@@ -167,7 +167,7 @@ SameWords ms ns = eqb (ms .concepts) (ns .concepts) && eqb (ms .roles) (ns .role
 
 pub names-same : (ms ns : Names) → SameWords ms ns ≡ true → ms ≡ ns
 names-same ms ns h =
-    let p = and-true (eqb (ms .concepts) (ns .concepts)) (eqb (ms .roles) (ns .roles)) h in
+    let p = both-true (eqb (ms .concepts) (ns .concepts)) (eqb (ms .roles) (ns .roles)) h in
     ap₂ (λ (c r : ℕ). record { concepts = c; roles = r }) (eqb-true (ms .concepts) (ns .concepts) (p .0)) (eqb-true (ms .roles) (ns .roles) (p .1))
 
 -- NAMES THAT CHANGE without a loss ARE MORE
@@ -179,7 +179,7 @@ names-rise ms ns b₁ b₂ b₃ b₄ up e = by-contra (suc (nameCount ns)) (name
     same l =
         let c = count-fewer (has (ns .concepts)) (has (ms .concepts)) (λ j. up (concept j)) 64 in
         let r = count-fewer (has (ns .roles)) (has (ms .roles)) (λ j. up (role j)) 64 in
-        true-and (eqb (ms .concepts) (ns .concepts)) (eqb (ms .roles) (ns .roles))
+        true-both (eqb (ms .concepts) (ns .concepts)) (eqb (ms .roles) (ns .roles))
         (eq-eqb (ms .concepts) (ns .concepts) (sym (word-same (ns .concepts) (ms .concepts) b₃ b₁ (λ j. up (concept j)) (omega arith))))
         (eq-eqb (ms .roles) (ns .roles) (sym (word-same (ns .roles) (ms .roles) b₄ b₂ (λ j. up (role j)) (omega arith))))
 

@@ -1,12 +1,12 @@
 -- Laws of the question check with out marks: where it takes the question there are 16 words, and else MARKS comes before GOAL.
 use mathlib.Core.Path.{_≡_, refl, sym, _∙_}
-use mathlib.Core.Bool.{Bool, true, false, _&&_}
+use mathlib.Core.Bool.{Bool, true, false, _&&_, and-true}
 use mathlib.Core.List.{List, []}
 use Prim.Native.Nat.{ℕ}
 use native.Mathlib.Omega.{arith}
 use lib.Dec.{eqb}
 use borrow.Author.Tests.{eqb-true, eqb-false, eq-eqb, ne-eqb}
-use Rattle.bits.proofs.Truth.{and-false, and-yes}
+use Rattle.bits.proofs.Truth.{and-no}
 use Rattle.marks.specs.Marks.{marksFit}
 use Rattle.pack.specs.declared.check.Checked.{Checked}
 use Rattle.pack.specs.declared.check.Checked.the-variants.{Refused, Count}
@@ -25,7 +25,7 @@ module _ (n m : ℕ) (s ws : List ℕ) (a b words : ℕ) where
   -- 16 words: the question of the marks in alone
   pub reason-asked : words ≡ 16 → checkReason n m s ws a b words ≡ checkQuestion n m s ws a b
   unfolding checkReason checkQuestion
-  reason-asked e = fits-alike (checkPack n m s) n a b (λ count. marksFit ws count && eqb words 16) (marksFit ws) (λ count. rw (eq-eqb words 16 e) (and-yes (marksFit ws count)))
+  reason-asked e = fits-alike (checkPack n m s) n a b (λ count. marksFit ws count && eqb words 16) (marksFit ws) (λ count. rw (eq-eqb words 16 e) (and-true (marksFit ws count)))
 
   -- marks in or out that cannot fit: as if there were no marks in
   pub reason-unread : ((count : ℕ) → (marksFit ws count && eqb words 16) ≡ false) → checkReason n m s ws a b words ≡ checkQuestion n m s [] a b
@@ -34,7 +34,7 @@ module _ (n m : ℕ) (s ws : List ℕ) (a b words : ℕ) where
 
   -- OTHER THAN 16 WORDS are refused as marks, where the pack is taken
   pub out-unread : (words ≡ 16 → ⊥) → checkReason n m s ws a b words ≡ checkQuestion n m s [] a b
-  out-unread d = reason-unread (λ count. and-false (marksFit ws count) (eqb words 16) (ne-eqb words 16 d))
+  out-unread d = reason-unread (λ count. and-no (marksFit ws count) (eqb words 16) (ne-eqb words 16 d))
 
   pub out-refused : {k : ℕ} → checkPack n m s ≡ Count k → (words ≡ 16 → ⊥) → checkReason n m s ws a b words ≡ Refused Marks
   unfolding checkQuestion marksFit

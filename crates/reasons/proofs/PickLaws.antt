@@ -1,28 +1,28 @@
 -- Picking over any property F of place sets: there is one, ascending deletion finds it, and no place of it can be spared.
 use mathlib.Core.Path.{_≡_, refl, sym, ap, _∙_}
 use mathlib.Core.Logic.{_↔_}
-use mathlib.Core.Bool.{Bool, true, false, not, Bool-discrete}
+use mathlib.Core.Bool.{Bool, true, false, not, Bool-discrete, and-false, and-true}
 use Prim.Native.Nat.{ℕ, zero, suc, _+_, _≤_, _<_}
 use native.Mathlib.Decide.{ℕ-discrete, decLt}
 use native.Mathlib.Omega.{arith}
 use lib.Dec.{eqb}
-use borrow.Author.Tests.{eqb-false, eq-eqb, ne-eqb}
-use Rattle.bits.proofs.Truth.{and-true, and-false, and-yes, not-true, never}
+use borrow.Author.Tests.{eqb-false, eq-eqb, ne-eqb, not-true}
+use Rattle.bits.proofs.Truth.{both-true, never}
 use Rattle.reasons.specs.Printed.{Within, Differ, IsPicked, IsMinimal, without, spared, picked}
 
 -- one place taken out
 module _ (S : ℕ → Bool) (i : ℕ) where
   pub without-true : (j : ℕ) → without S i j ≡ true → (S j ≡ true) × (j ≡ i → ⊥)
   unfolding without
-  without-true j h = let p = and-true (S j) (not (eqb j i)) h in (p .0, eqb-false j i (not-true (eqb j i) (p .1)))
+  without-true j h = let p = both-true (S j) (not (eqb j i)) h in (p .0, eqb-false j i (not-true (eqb j i) (p .1)))
 
   without-other : (j : ℕ) → (j ≡ i → ⊥) → without S i j ≡ S j
   unfolding without
-  without-other j h = rw (ne-eqb j i h) (and-yes (S j))
+  without-other j h = rw (ne-eqb j i h) (and-true (S j))
 
   without-self : without S i i ≡ false
   unfolding without
-  without-self = rw (eq-eqb i i refl) (and-false (S i) false refl)
+  without-self = rw (eq-eqb i i refl) (and-false (S i))
 
   -- a subset that lacks the place
   without-within : (len : ℕ) (Q : ℕ → Bool) → Within len Q S → Q i ≡ false → Within len Q (without S i)

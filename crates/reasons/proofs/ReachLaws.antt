@@ -7,7 +7,7 @@ use native.Mathlib.Omega.{arith}
 use lib.ListN.{length}
 use borrow.Author.Tests.{eqb-true, eq-eqb}
 use Rattle.bits.specs.Sets.{countTo}
-use Rattle.bits.proofs.Truth.{and-true, true-and, never, alike, turn}
+use Rattle.bits.proofs.Truth.{both-true, true-both, never, alike, turn}
 use Rattle.bits.proofs.SetLaws.{count-le, count-fewer, count-less}
 use Rattle.pack.specs.declared.line.Line.{Line}
 use Rattle.pack.specs.declared.line.Line.the-variants.{Under, BothUnder, UnderSome, SomeUnder, RoleUnder, ChainUnder, NoLine}
@@ -56,15 +56,15 @@ module _ (R : Name → Bool) (a : ℕ) (start : R (concept a) ≡ true) where
   two-all : (xs : List Name) → length xs ≤ 2 → R (nameAt a xs 0) ≡ true → R (nameAt a xs 1) ≡ true → allIn R xs ≡ true
   unfolding allIn
   two-all [] l h g = refl
-  two-all (x ∷ []) l h g = true-and (R x) true h refl
-  two-all (x ∷ y ∷ []) l h g = true-and (R x) (R y && true) h (true-and (R y) true g refl)
+  two-all (x ∷ []) l h g = true-both (R x) true h refl
+  two-all (x ∷ y ∷ []) l h g = true-both (R x) (R y && true) h (true-both (R y) true g refl)
   two-all (x ∷ y ∷ z ∷ xs) l h g = absurd (omega arith)
 
   all-two : (xs : List Name) (j : ℕ) → allIn R xs ≡ true → R (nameAt a xs j) ≡ true
   unfolding allIn
   all-two [] j h = start
-  all-two (x ∷ xs) zero h = and-true (R x) (allIn R xs) h .0
-  all-two (x ∷ xs) (suc j) h = all-two xs j (and-true (R x) (allIn R xs) h .1)
+  all-two (x ∷ xs) zero h = both-true (R x) (allIn R xs) h .0
+  all-two (x ∷ xs) (suc j) h = all-two xs j (both-true (R x) (allIn R xs) h .1)
 
 -- an arrow that may be taken
 pub record Marked (ls : List Line) (S : ℕ → Bool) (s : Arrow) : Type 0 where

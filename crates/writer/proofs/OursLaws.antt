@@ -15,7 +15,7 @@ use Rattle.bits.specs.Bit.{has}
 use Rattle.bits.proofs.BitLaws.{has-high}
 use Rattle.bits.proofs.Promises.{no-second}
 use Rattle.bits.proofs.SetLaws.{some-false}
-use Rattle.bits.proofs.Truth.{true-and}
+use Rattle.bits.proofs.Truth.{true-both}
 use Rattle.pack.specs.declared.check.Checked.{Checked}
 use Rattle.pack.specs.declared.check.Checked.the-variants as checked
 use Rattle.pack.specs.declared.line.Fact.the-variants.{In}
@@ -60,8 +60,8 @@ module _ (n m : ℕ) (s ws : List ℕ) (few : n ≤ 64) where
       let k = thingsIn m (noBytes n m s ws) in
       let things = no-things in
       let rest : size % (8 * (1 + m)) ≡ 0 = ap (λ (l : ℕ). l % (8 * (1 + m))) no-whole ∙ mul-mod-left n (8 * (1 + m)) in
-      true-and (eqb (size % (8 * (1 + m))) 0) (leb 1 k && leb k 64) (eq-eqb (size % (8 * (1 + m))) 0 rest)
-      (true-and (leb 1 k) (leb k 64) (le-leb 1 k (omega arith)) (le-leb k 64 (omega arith)))
+      true-both (eqb (size % (8 * (1 + m))) 0) (leb 1 k && leb k 64) (eq-eqb (size % (8 * (1 + m))) 0 rest)
+      (true-both (leb 1 k) (leb k 64) (le-leb 1 k (omega arith)) (le-leb k 64 (omega arith)))
 
   no-rows : (i : ℕ) → rowAt (noBytes n m s ws) i ≡ getD (ourRows (linesOf s) (counted s ws) n m) i 0
   unfolding noBytes
@@ -113,11 +113,11 @@ module _ (n m : ℕ) (s ws : List ℕ) (a b : ℕ) {k : ℕ} (taken : checkQuest
       λ i g. (let p = ours-usable ls S n m a b (asked-valid n m s ws a b taken) (asked n m s ws a b taken .goalA) h i d g .there in omega arith) in
       let all : stepsOf sheet ≡ ss = steps-of ss d small in
       yes-accepts n m s ws a b sheet taken
-      (true-and (eqb (length sheet % 8) 0) (leb (length sheet) 524288) (eq-eqb (length sheet % 8) 0 (omega arith)) (le-leb (length sheet) 524288 (omega arith)))
+      (true-both (eqb (length sheet % 8) 0) (leb (length sheet) 524288) (eq-eqb (length sheet % 8) 0 (omega arith)) (le-leb (length sheet) 524288 (omega arith)))
       (λ i g.
       let there : i < length ss = omega arith in
       let p = parts-all stepBytes (λ s. refl) ss i d there in
-      true-and (zerosIn (part sheet i)) (goodOver ls S n (known ls n (take i (stepsOf sheet))) (stepIn (part sheet i)))
+      true-both (zerosIn (part sheet i)) (goodOver ls S n (known ls n (take i (stepsOf sheet))) (stepIn (part sheet i)))
       (ap zerosIn p ∙ zeros-in (getD ss i d))
       (ap₂ (λ (before : List Step) (step : Step). goodOver ls S n (known ls n (take i before)) step) all (ap stepIn p ∙ step-in (getD ss i d) (small i there))
       ∙ ours-good ls S n m a b (asked-valid n m s ws a b taken) (asked n m s ws a b taken .goalA) h i d there))

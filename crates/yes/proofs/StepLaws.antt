@@ -7,7 +7,7 @@ use Prim.Native.Nat.{ℕ, _/_, _≤_, _<_}
 use lib.Dec.{ltb}
 use lib.ListN.{length}
 use borrow.Author.Tests.{ltb-true}
-use Rattle.bits.proofs.Truth.{and-true}
+use Rattle.bits.proofs.Truth.{both-true}
 use Rattle.bits.proofs.Promises.{no-second}
 use Rattle.pack.specs.declared.line.Line.{Line}
 use Rattle.pack.specs.declared.line.Fact.{Fact}
@@ -58,8 +58,8 @@ module _ (ls : List Line) (S : ℕ → Bool) (n : ℕ) where
   pub good : {K : Fact → Bool} {s : Step} → goodOver ls S n K s ≡ true → Good K s
   unfolding goodOver
   good {K} {s} h =
-      let g = and-true (usable ls S n s) (premisesKnown (lineAt ls (s .place)) K s) h in
-      let k = and-true (K (premiseOneOf ls s)) (K (premiseTwoOf ls s)) (g .1) in
+      let g = both-true (usable ls S n s) (premisesKnown (lineAt ls (s .place)) K s) h in
+      let k = both-true (K (premiseOneOf ls s)) (K (premiseTwoOf ls s)) (g .1) in
       record { may = g .0; one = k .0; two = k .1 }
 
 -- THE CONCLUSION OF A USABLE STEP has a place in the tables

@@ -1,6 +1,6 @@
 -- Laws of the yes sheet: what is known after so many steps, the run of the code through the steps, and what the answers show.
 use mathlib.Core.Path.{_≡_, refl, sym, ap, ap₂, _∙_}
-use mathlib.Core.Bool.{Bool, true, false, cond, not, _&&_, _||_}
+use mathlib.Core.Bool.{Bool, true, false, cond, not, _&&_, _||_, or-false, or-assoc}
 use mathlib.Core.List.{List, [], _∷_, _++_}
 use Prim.Native.Nat.{ℕ, zero, suc, _+_, _-_, _/_, _≤_, _<_}
 use native.Mathlib.Nat.{zero-add, sub-zero}
@@ -9,9 +9,9 @@ use native.Mathlib.Omega.{arith}
 use lib.Dec.{ltb}
 use lib.ListN.{length, take}
 use lib.Seq.{take-suc, take-all}
-use borrow.Author.Tests.{ltb-true, ltb-false, lt-ltb, le-ltb}
+use borrow.Author.Tests.{ltb-true, ltb-false, lt-ltb, le-ltb, not-true, not-false}
 use Rattle.bits.specs.Sets.{lowest}
-use Rattle.bits.proofs.Truth.{and-true, or-elim, or-false, or-assoc, not-true, not-false, never}
+use Rattle.bits.proofs.Truth.{both-true, or-elim, never}
 use Rattle.bits.proofs.SetLaws.{Lowest, lowest-is, lowest-on, lowest-here, lowest-end, none-lowest}
 use Rattle.bits.proofs.Promises.{no-second}
 use Rattle.bits.proofs.ListLaws.{listed-length, listed-at}
@@ -111,7 +111,7 @@ module _ (ls : List Line) (S : ℕ → Bool) (n : ℕ) (sheet : List ℕ) where
         let f = conclusionOf ls s in
         let c′ : concepts′ ≡ addedConcepts f concepts = rw t at c in
         let l′ : links′ ≡ addedLinks f links = rw t at l in
-        let g = good ls S n (and-true (zerosIn (part sheet i)) (goodOver ls S n (held concepts links) s) (sym e ∙ t) .1) in
+        let g = good ls S n (both-true (zerosIn (part sheet i)) (goodOver ls S n (held concepts links) s) (sym e ∙ t) .1) in
         let has = conclusion-in-table n m few roles ls S s v (g .may) in
         rw (c′, l′)
         (record {
@@ -200,7 +200,7 @@ module _ (ls : List Line) (S : ℕ → Bool) (n : ℕ) (sheet : List ℕ) where
   known-derived (suc i) l g f h =
       let s = stepIn (part sheet i) in
       let earlier = known-derived i (omega arith) (λ j k. g j (omega arith)) in
-      let step = good ls S n (and-true (zerosIn (part sheet i)) (goodOver ls S n (known ls n (take i (stepsOf sheet))) s) (g i (omega arith)) .1) in
+      let step = good ls S n (both-true (zerosIn (part sheet i)) (goodOver ls S n (known ls n (take i (stepsOf sheet))) s) (g i (omega arith)) .1) in
       or-elim (known ls n (take i (stepsOf sheet)) f) (sameFact (conclusionOf ls s) f)
       (sym (known-more ls n sheet i (omega arith) f) ∙ ap (λ (k : ℕ). known ls n (take k (stepsOf sheet)) f) (add-one i) ∙ h)
       (earlier f)

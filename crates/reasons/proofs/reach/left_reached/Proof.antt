@@ -1,8 +1,8 @@
 -- `left_reached`: variant by variant: the bits of the one or two left-side names; a list ends with yes (`and-yes`).
 use mathlib.Core.Path.{sym, _∙_}
+use mathlib.Core.Bool.{and-true}
 use native.Mathlib.Omega.{arith}
 use borrow.Author.Needs.{needs}
-use Rattle.bits.proofs.Truth.{and-yes}
 use Rattle.reasons.specs.Reach.{allIn}
 use Rattle.reasons.proofs.reach.left_reached.Statement.{statement}
 use Rattle.reasons.proofs.reach.left_reached.Tie as tie
@@ -27,27 +27,27 @@ both-set-requires-3 c κs = let v = rw (c .before .l6 .given .1) at (c .before .
 
 returns : tie.Need-returns
 unfolding allIn
-returns c = rw (c .before .before .l .given .1) (c .one-set .ensures ∙ sym (and-yes _))
+returns c = rw (c .before .before .l .given .1) (c .one-set .ensures ∙ sym (and-true _))
 
 returns-2 : tie.Need-returns-2
 unfolding allIn
-returns-2 c = rw (c .before .before .l2 .given .1, and-yes) (c .both-set .ensures)
+returns-2 c = rw (c .before .before .l2 .given .1, and-true) (c .both-set .ensures)
 
 returns-3 : tie.Need-returns-3
 unfolding allIn
-returns-3 c = rw (c .before .before .l3 .given .1) (c .one-set2 .ensures ∙ sym (and-yes _))
+returns-3 c = rw (c .before .before .l3 .given .1) (c .one-set2 .ensures ∙ sym (and-true _))
 
 returns-4 : tie.Need-returns-4
 unfolding allIn
-returns-4 c = rw (c .before .before .l4 .given .1, and-yes) (c .both-set2 .ensures)
+returns-4 c = rw (c .before .before .l4 .given .1, and-true) (c .both-set2 .ensures)
 
 returns-5 : tie.Need-returns-5
 unfolding allIn
-returns-5 c = rw (c .before .before .l5 .given .1) (c .one-set3 .ensures ∙ sym (and-yes _))
+returns-5 c = rw (c .before .before .l5 .given .1) (c .one-set3 .ensures ∙ sym (and-true _))
 
 returns-6 : tie.Need-returns-6
 unfolding allIn
-returns-6 c = rw (c .before .before .l6 .given .1, and-yes) (c .both-set3 .ensures)
+returns-6 c = rw (c .before .before .l6 .given .1, and-true) (c .both-set3 .ensures)
 
 returns-7 : tie.Need-returns-7
 unfolding allIn

@@ -1,7 +1,7 @@
 -- `reach_line`: with its left side reached, the right side comes in and the place goes; else names and marks stay.
 use mathlib.Core.Path.{sym, _∙_}
+use mathlib.Core.Bool.{and-true}
 use borrow.Author.Needs.{needs}
-use Rattle.bits.proofs.Truth.{and-yes}
 use Rattle.reasons.proofs.reach.reach_line.Statement.{statement}
 use Rattle.reasons.proofs.reach.reach_line.Tie as tie
 
@@ -14,7 +14,7 @@ returns c =
 returns-2 : tie.Need-returns-2
 returns-2 c =
     let e = sym (c .before .left-reached .ensures) ∙ c .if1 .left in
-    (rw e, (c .before .before .before .pre .1, λ k. rw e (sym (and-yes _))))
+    (rw e, (c .before .before .before .pre .1, λ k. rw e (sym (and-true _))))
 
 pub reach-line-spec : {M : Type 1} → statement M
 reach-line-spec =

@@ -6,7 +6,7 @@ use Prim.Native.Nat.{_/_, _<_}
 use lib.ListN.{length}
 use borrow.Author.Needs.{needs}
 use borrow.Author.Tests.{ltb-true}
-use Rattle.bits.proofs.Truth.{and-true}
+use Rattle.bits.proofs.Truth.{both-true}
 use Rattle.pack.specs.Record.{linesOf}
 use Rattle.pack.specs.Question.{counted}
 use Rattle.pack.specs.Rules.{conclusion, conclusionOf, numbersFit}
@@ -21,7 +21,7 @@ zeros-good : (c : tie.Then1) → zerosIn (c .before .before .before .before .bef
 zeros-good c = sym (c .before .zeros-zero .ensures) ∙ c .if1 .taken
 
 below : (c : tie.Then2) → let a = c .before .before .before .before in a .read-step .result .place < length (a .before .before .before .before .args .pack .now) / 8
-below c = ltb-true _ _ (and-true _ _ (sym (c .before .place-counts .ensures) ∙ c .if2 .taken) .0)
+below c = ltb-true _ _ (both-true _ _ (sym (c .before .place-counts .ensures) ∙ c .if2 .taken) .0)
 
 -- with the line read, what is left to judge
 judged : (c : tie.After-line-at)
