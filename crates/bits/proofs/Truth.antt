@@ -1,5 +1,5 @@
 -- Laws of yes and no.
-use mathlib.Core.Path.{_≡_, refl, sym}
+use mathlib.Core.Path.{_≡_, refl, sym, ap}
 use mathlib.Core.Bool.{Bool, true, false, not, _&&_, _||_, true≢false}
 use Prim.Native.Nat.{ℕ, _<_}
 use native.Mathlib.Decide.{decLt}
@@ -34,10 +34,14 @@ or-right false b h = h
 pub never : {C : Type 0} {a : Bool} → a ≡ true → a ≡ false → C
 never {C} {a} h g = absurd (true≢false (rw h at g))
 
+-- what cannot be yes is no
+pub is-no : {a : Bool} → (a ≡ true → ⊥) → a ≡ false
+is-no {a = true} h = absurd (h refl)
+is-no {a = false} h = refl
+
 -- what is not follows the other way
 pub turn : (t u : Bool) → (t ≡ true → u ≡ true) → not u ≡ true → not t ≡ true
-turn true u f h = never (f refl) (not-true u h)
-turn false u f h = refl
+turn t u f h = ap not (is-no (λ e. never (f e) (not-true u h)))
 
 -- two answers that are yes together are one
 pub alike : (a b : Bool) → (a ≡ true → b ≡ true) → (b ≡ true → a ≡ true) → a ≡ b

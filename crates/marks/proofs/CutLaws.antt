@@ -12,7 +12,7 @@ use lib.Pow.{pow-pos}
 use lib.Seq.{getD-set-same, getD-set-other}
 use borrow.Author.Tests.{lt-ltb, le-ltb, le-leb, lt-leb, eq-eqb, ne-eqb}
 use Rattle.bits.specs.Bit.{has}
-use Rattle.bits.proofs.Truth.{both-true, never}
+use Rattle.bits.proofs.Truth.{both-true, never, is-no}
 use Rattle.bits.proofs.BitLaws.{has-zero, has-high, has-and, has-or, has-not-word, one-shl}
 use Rattle.marks.specs.Marks.{marked, marksOf, cutOut}
 use Rattle.marks.proofs.MarkLaws.{at-word, unmarked-past}
@@ -82,13 +82,12 @@ module _ (P : ℕ → Bool) (i k : ℕ) where
 pub cut-marked : (ws : List ℕ) (i k : ℕ) → length ws ≡ 16 → marked (marksOf (cutOut (marked ws) i k)) ≡ cutOut (marked ws) i k
 cut-marked ws i k l = fun-ext (λ j. go j (decLt j 1024))
   where
-    past : (j : ℕ) → 1024 ≤ j → (t : Bool) → cutOut (marked ws) i k j ≡ t → false ≡ t
-    past j h true e = never (cut-fewer (marked ws) i k j e) (unmarked-past ws j (omega arith))
-    past j h false e = refl
+    past : (j : ℕ) → 1024 ≤ j → cutOut (marked ws) i k j ≡ false
+    past j h = is-no (λ e. never (cut-fewer (marked ws) i k j e) (unmarked-past ws j (omega arith)))
 
     go : (j : ℕ) → Dec (j < 1024) → marked (marksOf (cutOut (marked ws) i k)) j ≡ cutOut (marked ws) i k j
     go j (yes h) = marked-of (cutOut (marked ws) i k) j h
-    go j (no h) = marked-past (cutOut (marked ws) i k) j (omega arith) ∙ past j (omega arith) (cutOut (marked ws) i k j) refl
+    go j (no h) = marked-past (cutOut (marked ws) i k) j (omega arith) ∙ sym (past j (omega arith))
 
 -- with no range cut out they mark what they did
 pub copy-marked : (ws copy : List ℕ) → length ws ≡ 16 → copy ≡ marksOf (cutOut (marked ws) 0 0) → marked copy ≡ marked ws

@@ -10,7 +10,7 @@ use lib.ListN.{length, getD, List·getD-eq-default}
 use borrow.Author.Tests.{eqb-true, eq-eqb, le-leb, lt-leb, not-true}
 use Rattle.bits.specs.Bit.{has}
 use Rattle.bits.specs.Sets.{lowest, countTo, some}
-use Rattle.bits.proofs.Truth.{both-true, true-both, and-no, never}
+use Rattle.bits.proofs.Truth.{both-true, true-both, and-no, never, is-no}
 use Rattle.bits.proofs.BitLaws.{has-zero}
 use Rattle.bits.proofs.SetLaws.{Lowest, lowest-is, true-some, some-false, count-add, count-same}
 use Rattle.marks.specs.Marks.{marked, marksFit}
@@ -81,12 +81,11 @@ module _ (ws : List ℕ) where
   fit {count} h =
       let a = both-true (eqb (length ws) 16) (not (some 1024 (λ i. leb count i && marked ws i))) h in
       let six : length ws ≡ 16 = eqb-true _ _ (a .0) in
-      record { sixteen = six; above = λ i l. go six (not-true (some 1024 (λ i. leb count i && marked ws i)) (a .1)) i l (decLt i 1024) (marked ws i) refl }
+      record { sixteen = six; above = λ i l. go six (not-true (some 1024 (λ i. leb count i && marked ws i)) (a .1)) i l (decLt i 1024) }
     where
-      go : length ws ≡ 16 → some 1024 (λ i. leb count i && marked ws i) ≡ false → (i : ℕ) → count ≤ i → Dec (i < 1024) → (t : Bool) → marked ws i ≡ t → t ≡ false
-      go six none i l (yes k) true e = never (true-some (λ i. leb count i && marked ws i) 1024 i k (true-both (leb count i) (marked ws i) (le-leb count i l) e)) none
-      go six none i l (no k) true e = never e (unmarked-past i (omega arith))
-      go six none i l d false e = refl
+      go : length ws ≡ 16 → some 1024 (λ i. leb count i && marked ws i) ≡ false → (i : ℕ) → count ≤ i → Dec (i < 1024) → marked ws i ≡ false
+      go six none i l (yes k) = is-no (λ e. never (true-some (λ i. leb count i && marked ws i) 1024 i k (true-both (leb count i) (marked ws i) (le-leb count i l) e)) none)
+      go six none i l (no k) = unmarked-past i (omega arith)
 
   pub fits : {count : ℕ} → Fit count → marksFit ws count ≡ true
   unfolding marksFit

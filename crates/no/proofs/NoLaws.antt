@@ -11,7 +11,7 @@ use borrow.Author.Tests.{le-ltb, ltb-true, ltb-false, leb-true, le-leb, not-true
 use Rattle.bits.specs.Bit.{has}
 use Rattle.bits.specs.Sets.{some}
 use Rattle.bits.proofs.Promises.{no-second}
-use Rattle.bits.proofs.Truth.{both-true, true-both, never}
+use Rattle.bits.proofs.Truth.{both-true, true-both, never, is-no}
 use Rattle.bits.proofs.SetLaws.{Lowest, lowest-is, lowest-none, none-lowest, some-true, true-some}
 use Rattle.pack.specs.declared.check.Refusal.{Refusal}
 use Rattle.pack.specs.declared.check.Checked.{Checked}
@@ -57,12 +57,11 @@ module _ (n m k : ℕ) (sheet : List ℕ) (few : k ≤ 64) (whole : length sheet
   unfolding lowestForbidden forbidden
   role-fits e r h = record {
     rows = omega (arith, role-rows r h);
-    inside = λ x y lx ly b. none x y lx ly b (has (rowAt sheet (k + (r * k + x))) y) refl;
+    inside = λ x y lx ly b. is-no (none x y lx ly b);
   }
     where
-      none : (x y : ℕ) → x < k → k ≤ y → y < 64 → (t : Bool) → has (rowAt sheet (k + (r * k + x))) y ≡ t → t ≡ false
-      none x y lx ly b false g = refl
-      none x y lx ly b true g =
+      none : (x y : ℕ) → x < k → k ≤ y → y < 64 → has (rowAt sheet (k + (r * k + x))) y ≡ true → ⊥
+      none x y lx ly b g =
           let i = k + (r * k + x) in
           let far : i < rowsOf m k = omega (arith, role-rows r h) in
           let clean = lowest-none (forbidden n k sheet) 0 (rowsOf m k) (e ∙ sym (zero-add (rowsOf m k))) i (omega arith) (omega arith) in

@@ -6,10 +6,10 @@ use native.Mathlib.Decide.{decLt}
 use native.Mathlib.Omega.{arith, by-contra}
 use lib.Bits.{bitAnd}
 use lib.Dec.{eqb}
-use borrow.Author.Tests.{eq-eqb, ne-eqb, eqb-true, eqb-false}
+use borrow.Author.Tests.{eq-eqb, ne-eqb, eqb-true, eqb-false, not-true, not-false}
 use Rattle.bits.specs.Bit.{has}
 use Rattle.bits.specs.Sets.{lowest, every, some}
-use Rattle.bits.proofs.Truth.{and-no, alike, never}
+use Rattle.bits.proofs.Truth.{and-no, alike, never, is-no}
 use Rattle.bits.proofs.SetLaws.{Lowest, lowest-is, lowest-at, every-true, true-every, every-false, some-true, true-some, some-false}
 use Rattle.bits.proofs.BitLaws.{meets-none, none-meets, contained, contains}
 use Rattle.pack.specs.World.{implies}
@@ -17,19 +17,13 @@ use Rattle.pack.proofs.WorldLaws.{implies-true, true-implies}
 
 -- two words meet
 pub meet : (x y : ℕ) → x < 2 ^ 64 → not (eqb (bitAnd x y) 0) ≡ some 64 (λ j. has x j && has y j)
-meet x y h = go (eqb (bitAnd x y) 0) refl
+meet x y h =
+    alike (not (eqb (bitAnd x y) 0)) (some 64 both)
+    (λ t. not-false (some 64 both) (is-no (λ f. eqb-false (bitAnd x y) 0 (not-true (eqb (bitAnd x y) 0) t) (none-meets 64 x y h (λ j l. is-no (λ g. never (true-some both 64 j l g) (not-true (some 64 both) f)))))))
+    (λ s. ap not (ne-eqb (bitAnd x y) 0 (λ e. never s (some-false both 64 (λ j l. meets-none x y e j)))))
   where
-    go : (t : Bool) → eqb (bitAnd x y) 0 ≡ t → not t ≡ some 64 (λ j. has x j && has y j)
-    go true e = sym (some-false (λ j. has x j && has y j) 64 (λ j l. meets-none x y (eqb-true (bitAnd x y) 0 e) j))
-    go false e = other (some 64 (λ j. has x j && has y j)) refl
-      where
-        other : (t : Bool) → some 64 (λ j. has x j && has y j) ≡ t → true ≡ t
-        other true f = refl
-        other false f = absurd (eqb-false (bitAnd x y) 0 e (none-meets 64 x y h (λ j l. none-some j l (has x j && has y j) refl)))
-          where
-            none-some : (j : ℕ) → j < 64 → (t : Bool) → (has x j && has y j) ≡ t → t ≡ false
-            none-some j l true g = never (true-some (λ j. has x j && has y j) 64 j l g) f
-            none-some j l false g = refl
+    both : ℕ → Bool
+    both j = has x j && has y j
 
 -- one word has every bit of the other
 pub inside : (x y : ℕ) → x < 2 ^ 64 → y < 2 ^ 64 → eqb (bitAnd x ((2 ^ 64 - 1) - y)) 0 ≡ every 64 (λ j. implies (has x j) (has y j))

@@ -7,7 +7,7 @@ use native.Mathlib.Omega.{arith}
 use lib.Dec.{ltb}
 use lib.ListN.{length}
 use borrow.Author.Tests.{ltb-true, lt-ltb}
-use Rattle.bits.proofs.Truth.{both-true, never}
+use Rattle.bits.proofs.Truth.{both-true, never, is-no}
 use Rattle.marks.specs.Marks.{marksFit, marked}
 use Rattle.marks.proofs.MarkLaws.{Fit, fit, fits}
 use Rattle.pack.specs.declared.check.Refusal.the-variants.{Marks, Goal}
@@ -65,8 +65,4 @@ asks n m s ws a b {k} q =
 pub asks-fewer : (n m : ℕ) (s ws : List ℕ) (a b : ℕ) {k : ℕ} → checkQuestion n m s ws a b ≡ Count k → (ws′ : List ℕ) → length ws′ ≡ 16 → ((i : ℕ) → marked ws′ i ≡ true → marked ws i ≡ true) → checkQuestion n m s ws′ a b ≡ Count k
 asks-fewer n m s ws a b {k} h ws′ l fewer =
     let q = asked n m s ws a b h in
-    asks n m s ws′ a b (record { pack = q .pack; marks = record { sixteen = l; above = λ i g. out i (q .marks .above i g) (marked ws′ i) refl }; goalA = q .goalA; goalB = q .goalB })
-  where
-    out : (i : ℕ) → marked ws i ≡ false → (t : Bool) → marked ws′ i ≡ t → t ≡ false
-    out i e true f = never (fewer i f) e
-    out i e false f = refl
+    asks n m s ws′ a b (record { pack = q .pack; marks = record { sixteen = l; above = λ i g. is-no (λ f. never (fewer i f) (q .marks .above i g)) }; goalA = q .goalA; goalB = q .goalB })
