@@ -53,18 +53,6 @@ some-things p q k h e f =
     at j s (yes l) = true-some q k j l (sym (e j l) ∙ s)
     at j s (no l) = never s (f j (omega arith))
 
--- "if p then q", as the code answers it: q where p is yes, and yes where p is no
-pub implied : (p q : Bool) {r s : Bool} → r ≡ p → r ≡ true → s ≡ q → s ≡ implies p q
-unfolding implies
-implied p q e t f = f ∙ rw (sym e ∙ t)
-
-pub not-implied : (p q : Bool) {r : Bool} → r ≡ p → r ≡ false → true ≡ implies p q
-unfolding implies
-not-implied p q e t = rw (sym e ∙ t)
-
-pub both-implied : (p q v : Bool) {r s : Bool} → r ≡ p → r ≡ true → s ≡ implies q v → s ≡ implies (p && q) v
-both-implied p q v e t f = f ∙ rw (sym e ∙ t)
-
 -- a walk over the set bits of a word w, which takes bit after bit off: each bit before y that is set is ok, the rest has
 -- w's bits from y on, and y is the lowest bit of the rest, or 64
 module _ (w : ℕ) (ok : ℕ → Bool) where

@@ -14,10 +14,9 @@ use marks::look::marks_fit;
 pub fn goal_fits(n: usize, a: usize, b: usize) -> bool
     ensures { λ r. ⌜ r ≡ goalFits n a b ⌝ }
 {
-    if n <= a {
-        return false;
-    }
-    b < n
+    let low_a = a < n;
+    let low_b = b < n;
+    low_a & low_b
 }
 
 // The marks and the goal, for a pack of `count` records.

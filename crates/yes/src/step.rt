@@ -57,13 +57,8 @@ fn number_fits(used: bool, y: u8, n: usize) -> bool
 fn numbers_fit(l: Line, s: Step, n: usize) -> bool
     ensures { λ r. ⌜ r ≡ numbersFit l n s ⌝ }
 {
-    if n <= s.x as usize {
-        return false;
-    }
-    if number_fits(uses_y(l), s.y, n) {
-        return number_fits(uses_z(l), s.z, n);
-    }
-    false
+    let low = (s.x as usize) < n;
+    low & (number_fits(uses_y(l), s.y, n) & number_fits(uses_z(l), s.z, n))
 }
 
 // Are the premises of the line held?
@@ -80,10 +75,8 @@ fn premises_held<'a>(l: Line, s: Step, concepts: &'a [u64; 64], links: &'a [u64;
 fn place_counts<'a>(pack: &'a [u8], marks: &'a [u64], place: usize) -> bool
     ensures { λ r. ⌜ r ≡ (ltb place (length (now (pack .entry)) / 8) && counted (now (pack .entry)) (now (marks .entry)) place) ⌝ }
 {
-    if place < pack.len() / 8 {
-        return is_marked(marks, place);
-    }
-    false
+    let there = place < pack.len() / 8;
+    there & is_marked(marks, place)
 }
 
 // The step in an 8-byte part: is it good? If so its conclusion is added, and if not nothing is.

@@ -1,21 +1,13 @@
--- `row_under`: where bit a is set it goes by bit b (`implied`); else yes (`not-implied`).
+-- `row_under`: two bits, both below 64, so that bit j mod 64 is bit j (`low`).
 use borrow.Author.Needs.{needs}
 use Rattle.bits.proofs.BitLaws.{low}
-use Rattle.no.proofs.RowLaws.{implied, not-implied}
+use Rattle.pack.specs.World.{implies}
 use Rattle.no.proofs.thing.row_under.Statement.{statement}
 use Rattle.no.proofs.thing.row_under.Tie as tie
 
-test-bit-requires : tie.Need-test-bit-requires
-test-bit-requires c κs = search needs
-
-test-bit-requires-2 : tie.Need-test-bit-requires-2
-test-bit-requires-2 c κs = search needs
-
 returns : tie.Need-returns
-returns c = implied _ _ (low _ _ (c .before .before .before .pre .0) (c .before .before .test-bit .ensures)) (c .before .if1 .taken) (low _ _ (c .before .before .before .pre .1) (c .test-bit2 .ensures))
-
-returns-2 : tie.Need-returns-2
-returns-2 c = not-implied _ _ (low _ _ (c .before .before .pre .0) (c .before .test-bit .ensures)) (c .if1 .left)
+unfolding implies
+returns c = rw (low _ _ (c .before .before .pre .0) (c .before .test-bit .ensures), low _ _ (c .before .before .pre .1) (c .test-bit2 .ensures))
 
 pub row-under-spec : {M : Type 1} → statement M
-row-under-spec = tie.close (tie.spec test-bit-requires test-bit-requires-2 returns returns-2)
+row-under-spec = tie.close (tie.spec (λ c κs. search needs) (λ c κs. search needs) returns)
