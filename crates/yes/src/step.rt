@@ -8,15 +8,14 @@ ghost use Rattle.pack.specs.Rules.{conclusionOf, numberFits, numbersFit};
 ghost use Rattle.pack.specs.Record.{linesOf};
 ghost use Rattle.pack.specs.Question.{counted};
 ghost use Rattle.tables.specs.Tables.{held, addedConcepts, addedLinks};
-ghost use Rattle.yes.specs.YesSheet.{stepIn, zerosIn, goodOver, premisesKnown};
+ghost use Rattle.yes.specs.YesSheet.{stepIn, zerosIn, goodOver};
 use marks::look::is_marked;
 use pack::bytes::two_bytes;
 use pack::line::Line;
+use pack::line::Rule;
 use pack::line::Step;
-use pack::line::conclude;
 use pack::line::line_at;
-use pack::line::premise_one;
-use pack::line::premise_two;
+use pack::line::rule_of;
 use pack::line::uses_y;
 use pack::line::uses_z;
 use tables::add_fact;
@@ -61,14 +60,13 @@ fn numbers_fit(l: Line, s: Step, n: usize) -> bool
     low & (number_fits(uses_y(l), s.y, n) & number_fits(uses_z(l), s.z, n))
 }
 
-// Are the premises of the line held?
-fn premises_held<'a>(l: Line, s: Step, concepts: &'a [u64; 64], links: &'a [u64; 512]) -> bool
-    ensures { λ r. ⌜ r ≡ premisesKnown l (held (now (concepts .entry)) (now (links .entry))) s ⌝ }
+// Are the premises of the rule held?
+fn premises_held<'a>(rule: Rule, concepts: &'a [u64; 64], links: &'a [u64; 512]) -> bool
+    ensures { λ r. ⌜ r ≡ (held (now (concepts .entry)) (now (links .entry)) (rule .one) && held (now (concepts .entry)) (now (links .entry)) (rule .two)) ⌝ }
 {
-    if fact_held(premise_one(l, s.x, s.y), concepts, links) {
-        return fact_held(premise_two(l, s.x, s.y, s.z), concepts, links);
-    }
-    false
+    let one = rule.one;
+    let two = rule.two;
+    fact_held(one, concepts, links) & fact_held(two, concepts, links)
 }
 
 // Is the place that of a record that counts?
@@ -99,8 +97,10 @@ pub fn check_step<'a>(
         if place_counts(pack, marks, place) {
             let l = line_at(pack, place);
             if numbers_fit(l, s, n) {
-                if premises_held(l, s, concepts, links) {
-                    add_fact(conclude(l, s.x, s.y, s.z), concepts, links);
+                let rule = rule_of(l, s.x, s.y, s.z);
+                if premises_held(rule, concepts, links) {
+                    let gives = rule.gives;
+                    add_fact(gives, concepts, links);
                     return true;
                 }
             }

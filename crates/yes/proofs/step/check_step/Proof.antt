@@ -1,12 +1,13 @@
 -- `check_step`: test by test: what the tests show is the definition, part by part (`good-parts`); where all are
 -- passed, the fact that is added is the conclusion of the step (`concludes`).
-use mathlib.Core.Path.{_≡_, refl, sym, _∙_}
+use mathlib.Core.Path.{_≡_, refl, sym, ap, _∙_}
 use mathlib.Core.Bool.{true, _&&_}
 use Prim.Native.Nat.{_/_, _<_}
 use lib.ListN.{length}
 use borrow.Author.Needs.{needs}
 use borrow.Author.Tests.{ltb-true}
 use Rattle.bits.proofs.Truth.{both-true}
+use Rattle.pack.specs.declared.line.Rule.{Rule}
 use Rattle.pack.specs.Record.{linesOf}
 use Rattle.pack.specs.Question.{counted}
 use Rattle.pack.specs.Rules.{conclusion, conclusionOf, numbersFit}
@@ -44,19 +45,28 @@ conclusion-is c = concludes _ _ (c .before .before .before .before .before .read
 line-at-requires : tie.Need-line-at-requires
 line-at-requires c κs = below c
 
+-- the premises of the rule are those of the line
+premises-are : (c : tie.After-premises-held)
+    → let r = c .before .before .before in
+    let line = r .before .before .before in
+    let s = line .before .before .before .before .before .read-step .result in
+    let a = line .before .before .before .before .before .before .before .before .before .args in
+    c .premises-held .result ≡ premisesKnown (line .line-at .result) (held (a .concepts .now) (a .links .now)) s
+premises-are c = rw (c .before .before .before .rule-of .ensures) at (c .premises-held .ensures)
+
 returns : tie.Need-returns
 returns c =
-    let conc = c .before .before .before in
-    let prem = conc .before .before in
-    let fit = prem .before .before .before in (
-      rw (judged (fit .before .before), sym (fit .before .numbers-fit .ensures) ∙ fit .if3 .taken, sym (prem .premises-held .ensures) ∙ conc .before .if4 .taken),
-      rw (conc .conclude .ensures ∙ conclusion-is (fit .before .before)) at (c .add-fact .ensures),
+    let prem = c .before .before .before .before in
+    let rule = prem .before .before .before in
+    let fit = rule .before in (
+      rw (judged (fit .before .before), sym (fit .before .numbers-fit .ensures) ∙ fit .if3 .taken, sym (premises-are prem) ∙ c .before .before .before .if4 .taken),
+      rw (ap (λ (r : Rule). r .gives) (rule .rule-of .ensures) ∙ conclusion-is (fit .before .before)) at (c .add-fact .ensures),
     )
 
 returns-2 : tie.Need-returns-2
 returns-2 c =
-    let fit = c .before .before .before .before in (
-      rw (judged (fit .before .before), sym (fit .before .numbers-fit .ensures) ∙ fit .if3 .taken, sym (c .before .premises-held .ensures) ∙ c .if4 .left),
+    let fit = c .before .before .before .before .before in (
+      rw (judged (fit .before .before), sym (fit .before .numbers-fit .ensures) ∙ fit .if3 .taken, sym (premises-are (c .before)) ∙ c .if4 .left),
       (refl, refl),
     )
 
