@@ -18,7 +18,7 @@ use Rattle.pack.specs.Question.{counted}
 use Rattle.pack.specs.Rules.{premiseOneOf, premiseTwoOf, conclusion, conclusionOf, numbersFit, usable}
 use Rattle.pack.proofs.RecordLaws.{lines-length, lines-at}
 use Rattle.pack.proofs.RuleLaws.{usable-is}
-use Rattle.pack.proofs.Ranges.{conclusion-range}
+use Rattle.pack.proofs.Ranges.{step-range}
 use Rattle.tables.specs.Tables.{inTable, addedConcepts, addedLinks}
 use Rattle.tables.proofs.TableLaws.{in-table}
 use Rattle.yes.specs.YesSheet.{stepIn, goodOver, premisesKnown}
@@ -65,9 +65,7 @@ module _ (ls : List Line) (S : ℕ → Bool) (n : ℕ) where
 -- THE CONCLUSION OF A USABLE STEP has a place in the tables
 pub conclusion-in-table : (n m : ℕ) → n ≤ 64 → m ≤ 8 → (ls : List Line) (S : ℕ → Bool) (s : Step) → Valid n m ls → usable ls S n s ≡ true → inTable (conclusionOf ls s) ≡ true
 conclusion-in-table n m few roles ls S s v e =
-    let u = usable-is e in
-    in-table n m few roles (conclusionOf ls s)
-    (conclusion-range n m (lineAt ls (s .place)) (v (s .place) (u .there)) (s .x) (s .y) (s .z) (u .fitsX) (u .fitsY) (u .fitsZ))
+    in-table n m few roles (conclusionOf ls s) (step-range ls S n m v s (usable-is e) .2)
 
 -- NO SECOND RESULT, and no second later content of the rows, satisfies the promise of the check of a step; right and f are what
 -- the definitions give for the step and its conclusion
