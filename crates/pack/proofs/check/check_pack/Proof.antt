@@ -3,14 +3,14 @@ use Prim.Native.Nat.{_%_}
 use lib.Dec.{eqb, leb}
 use lib.ListN.{length}
 use borrow.Author.Tests.{leb-true}
-use Rattle.bits.proofs.Truth.{and-true}
+use Rattle.bits.proofs.Truth.{both-true}
 use Rattle.pack.specs.Pack.{checkPack}
 use Rattle.pack.proofs.GivenLaws.{pack-told}
 use Rattle.pack.proofs.check.check_pack.Statement.{statement}
 use Rattle.pack.proofs.check.check_pack.Tie as tie
 
 check-records-requires : tie.Need-check-records-requires
-check-records-requires c κs = let s = c .before .before .before .args .pack .now in leb-true (length s) 8192 (and-true (eqb (length s % 8) 0) (leb (length s) 8192) (c .if2 .taken) .1)
+check-records-requires c κs = let s = c .before .before .before .args .pack .now in leb-true (length s) 8192 (both-true (eqb (length s % 8) 0) (leb (length s) 8192) (c .if2 .taken) .1)
 
 returns : tie.Need-returns
 unfolding checkPack
