@@ -8,6 +8,7 @@ pub mod OutLaws
 pub mod HalveLaws
 pub mod AskLaws
 pub mod NameLaws
+pub mod FileLaws
 pub mod SetLaws
 pub mod SetRight
 pub mod ModuleLaws
