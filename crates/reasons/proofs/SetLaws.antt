@@ -8,7 +8,7 @@ use native.Mathlib.Omega.{arith}
 use lib.ListN.{length}
 use Rattle.bits.proofs.Truth.{never}
 use Rattle.marks.specs.Marks.{marked, marksOf, cutOut}
-use Rattle.marks.proofs.WordLaws.{marks-length, marks-alike, marks-again}
+use Rattle.marks.proofs.WordLaws.{marks-length, marked-of, marked-past, marks-alike, marks-again}
 use Rattle.marks.proofs.CutLaws.{cut-gone, cut-fewer, cut-marked}
 use Rattle.pack.specs.declared.check.Checked.the-variants as checked
 use Rattle.pack.specs.declared.check.Refusal.{Refusal}
@@ -67,6 +67,17 @@ module _ (n m : ℕ) (s ws : List ℕ) (a b : ℕ) (t : Taken n m s ws a b) (f :
           printed-one (linesOf s) (counted s ws) a b (marked r) p (printed (linesOf s) (counted s ws) n m a b)
           (printed-is (linesOf s) n m a b (asked-valid n m s ws a b (t .1)) (asked n m s ws a b (t .1) .pack .n-some) (asked n m s ws a b (t .1) .goalA) (counted s ws) f) i l
       go i (no l) = past-none (marked r) fewer i (omega arith) ∙ sym (past-none (printed (linesOf s) (counted s ws) n m a b) printed-fewer i (omega arith))
+
+  -- of the set's words: each place that they mark counts, and none is past the records
+  pub words-within : (i : ℕ) → marked (setMarks n m s ws a b) i ≡ true → counted s ws i ≡ true
+  words-within i h = go (decLt i 1024)
+    where
+      go : Dec (i < 1024) → counted s ws i ≡ true
+      go (yes l) = printed-fewer i (sym (marked-of (printed (linesOf s) (counted s ws) n m a b) i l) ∙ h)
+      go (no l) = never h (marked-past (printed (linesOf s) (counted s ws) n m a b) i (omega arith))
+
+  pub words-past : (i : ℕ) → length (linesOf s) ≤ i → marked (setMarks n m s ws a b) i ≡ false
+  words-past = past-none (marked (setMarks n m s ws a b)) words-within
 
   -- A EQUAL TO B: everything goes
   pub same-words : a ≡ b → (r : List ℕ) → r ≡ marksOf (cutOut (marked ws) 0 1024) → r ≡ setMarks n m s ws a b
