@@ -17,8 +17,7 @@ use Rattle.pack.specs.Record.{linesOf}
 use Rattle.pack.proofs.BytesLaws.{words-back}
 use Rattle.reasons.specs.declared.set.SetAnswer.{SetAnswer}
 use Rattle.reasons.specs.declared.set.SetAnswer.the-variants as sets
-use Rattle.reasons.specs.Printed.{printed}
-use Rattle.reasons.specs.Reach.{moduleOf}
+use Rattle.reasons.specs.Computed.{moduleOf, printed}
 use Rattle.reasons.specs.Module.{moduleMarks, moduleOut, askModule, writtenModule}
 use Rattle.reasons.specs.Set.{setNumber, setValue, setMarks, setOut, askSet, writtenSet}
 use Rattle.reasons.proofs.ModuleLaws.{MarksModule, module-written, module-right, module-length}

@@ -20,7 +20,8 @@ use Rattle.pack.specs.Record.{linesOf, ValidLine, Valid}
 use Rattle.pack.specs.World.{lineAt}
 use Rattle.pack.proofs.QuestionLaws.{Asked, asked, asked-valid}
 use Rattle.pack.proofs.RecordLaws.{lines-length}
-use Rattle.reasons.specs.Reach.{Name, moduleIn, IsModule, reached, moduleOf}
+use Rattle.reasons.specs.Reach.{Name, moduleIn, IsModule}
+use Rattle.reasons.specs.Computed.{reached, moduleOf}
 use Rattle.reasons.specs.Names.{TakenOf}
 use Rattle.reasons.specs.OutMarks.{checkReason}
 use Rattle.reasons.specs.Module.{moduleMarks, moduleAnswer, askModule, writtenModule}

@@ -18,7 +18,8 @@ use Rattle.marks.specs.Marks.{marked}
 use Rattle.pack.specs.declared.line.Line.{Line}
 use Rattle.pack.specs.World.{lineAt}
 use Rattle.reasons.specs.declared.reach.Names.{Names}
-use Rattle.reasons.specs.Reach.{Name, concept, role, leftNames, rightNames, allIn, Reaches, moduleIn, IsModule, sameName}
+use Rattle.reasons.specs.Reach.{Name, concept, role, leftNames, rightNames, allIn, Reaches, moduleIn, IsModule}
+use Rattle.reasons.specs.Computed.{sameName}
 use Rattle.reasons.specs.Names.{nameIn, withName, withNames, withLine, Inside, BothSides, numberOf, numbered, waitsFor, filed, Lacks, Filed, Walked, Fresh}
 use Rattle.reasons.proofs.ReachLaws.{name-self, name-one}
 

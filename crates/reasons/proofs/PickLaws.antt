@@ -8,7 +8,8 @@ use native.Mathlib.Omega.{arith}
 use lib.Dec.{eqb}
 use borrow.Author.Tests.{eqb-false, eq-eqb, ne-eqb}
 use Rattle.bits.proofs.Truth.{and-true, and-false, and-yes, not-true, never}
-use Rattle.reasons.specs.Printed.{Within, Differ, IsPicked, IsMinimal, without, spared, picked}
+use Rattle.reasons.specs.Printed.{Within, Differ, IsPicked, IsMinimal, without}
+use Rattle.reasons.specs.Computed.{spared, picked}
 
 -- one place taken out
 module _ (S : ℕ → Bool) (i : ℕ) where

@@ -20,8 +20,9 @@ use Rattle.passes.specs.Passes.{verdict}
 use Rattle.engine.specs.Verdict.{askVerdict}
 use Rattle.reasons.specs.declared.set.SetAnswer.the-variants as answer
 use Rattle.reasons.specs.Names.{TakenOf}
-use Rattle.reasons.specs.Printed.{IsPicked, IsPrinted, without, spared, picked, printed}
-use Rattle.reasons.specs.Reach.{IsModule, moduleOf}
+use Rattle.reasons.specs.Printed.{IsPicked, IsPrinted, without}
+use Rattle.reasons.specs.Computed.{moduleOf, spared, picked, printed}
+use Rattle.reasons.specs.Reach.{IsModule}
 use Rattle.reasons.specs.OutMarks.{checkReason}
 use Rattle.reasons.specs.Set.{setMarks, setAfter, setOut, askSet, writtenSet}
 use Rattle.reasons.proofs.PickLaws.{without-true}

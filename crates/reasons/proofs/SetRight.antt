@@ -16,7 +16,8 @@ use Rattle.pack.proofs.QuestionLaws.{asked, asked-valid}
 use Rattle.engine.proofs.VerdictRight.{verdict-right}
 use Rattle.reasons.specs.declared.set.SetAnswer.{SetAnswer}
 use Rattle.reasons.specs.declared.set.SetAnswer.the-variants as answer
-use Rattle.reasons.specs.Printed.{IsPrinted, without, printed}
+use Rattle.reasons.specs.Printed.{IsPrinted, without}
+use Rattle.reasons.specs.Computed.{printed}
 use Rattle.reasons.specs.OutMarks.{checkReason}
 use Rattle.reasons.specs.Set.{setMarks, askSet, writtenSet}
 use Rattle.reasons.proofs.OutLaws.{reason-asked}
