@@ -130,7 +130,7 @@ fn mark(marks: &mut [u64], i: usize)
     marks[at] = w;
 }
 
-// The places filed under a number.
+// The places filed under a number, copied: of its 16 words nothing is cut out.
 fn filed_under(files: &[u64], x: usize) -> [u64; 16]
     requires { ⌜ (length (now files) ≡ 2064) × (x ≤ 128) ⌝ }
     ensures { λ r. ⌜ (r ≡ marksOf (marked r)) × ((i : ℕ) → i < 1024 → marked r i ≡ filed (now (files .entry)) x i) ⌝ }
