@@ -21,7 +21,7 @@ use Rattle.reasons.specs.Computed.{moduleOf, printed}
 use Rattle.reasons.specs.Module.{moduleMarks, moduleOut, askModule, writtenModule}
 use Rattle.reasons.specs.Set.{setNumber, setValue, setMarks, setOut, askSet, writtenSet}
 use Rattle.reasons.proofs.ModuleLaws.{MarksModule, module-written, module-right, module-length}
-use Rattle.reasons.proofs.SetLaws.{set-length}
+use Rattle.reasons.proofs.AnswerLaws.{set-length}
 use Rattle.reasons.proofs.SetRight.{MarksSet, set-found, set-printed}
 use Rattle.desk.specs.Desk.{deskCode, checkedCode, setCodeOf, askModuleC, moduleCode, moduleBytes, setCode, setBytes}
 

@@ -9,6 +9,6 @@ pub mod HalveLaws
 pub mod AskLaws
 pub mod NameLaws
 pub mod FileLaws
-pub mod SetLaws
+pub mod AnswerLaws
 pub mod SetRight
 pub mod ModuleLaws

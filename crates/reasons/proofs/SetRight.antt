@@ -24,7 +24,7 @@ use Rattle.reasons.proofs.OutLaws.{reason-asked}
 use Rattle.reasons.proofs.PickLaws.{picked-same}
 use Rattle.reasons.proofs.PrintedLaws.{follows-more, printed-is, printed-needs}
 use Rattle.reasons.proofs.AskLaws.{lines-most}
-use Rattle.reasons.proofs.SetLaws.{words-within, words-past}
+use Rattle.reasons.proofs.AnswerLaws.{words-within, words-past}
 
 -- NO SECOND RESULT, no second content of the out marks
 pub set-fixed : (n m : ℕ) (s ws : List ℕ) (a b : ℕ) (out out₁ out₂ : List ℕ) (r r′ : SetAnswer)

@@ -1,4 +1,4 @@
--- `next_name`: the lowest bit of what the words lack, of the concepts (`fresh-concept`), then of the roles (`fresh-role`).
+-- `next_name`: the lowest bit that is not done, of the concepts (`fresh-concept`), then of the roles (`fresh-role`).
 use native.Mathlib.Omega.{arith}
 use Rattle.reasons.proofs.NameLaws.{next-most, fresh-concept, fresh-role}
 use borrow.Author.Needs.{needs}

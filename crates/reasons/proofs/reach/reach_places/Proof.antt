@@ -1,5 +1,5 @@
--- `reach_places`: at place i, which is to be visited, the places before it are done (`Walked`); each is one `reach_line`
--- (`walked-next`), and between two of them there is nothing to do.
+-- `reach_places`: at place i, which is to be visited, the places before it are done (`Walked`); each is one
+-- `reach_line` (`walked-next`), and between two of them there is nothing to do.
 use mathlib.Core.Path.{_≡_, sym, ap, _∙_, subst}
 use mathlib.Core.Bool.{true, _||_}
 use Prim.Native.Nat.{_+_, _-_, _*_, _<_}
