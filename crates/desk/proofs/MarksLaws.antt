@@ -5,7 +5,7 @@ use Prim.Native.Nat.{ℕ}
 use lib.ListN.{length}
 use borrow.Author.Tests.{eq-eqb}
 use Rattle.bits.proofs.ListLaws.{listed-length}
-use Rattle.marks.specs.Marks.{marked, markCount, marksOf}
+use Rattle.marks.specs.Marks.{marksOf}
 use Rattle.marks.proofs.WordLaws.{marks-length, marks-small}
 use Rattle.pack.specs.declared.check.Checked.{Checked}
 use Rattle.pack.specs.declared.check.Checked.the-variants.{Refused, Count}
@@ -17,13 +17,12 @@ use Rattle.pack.specs.Record.{linesOf}
 use Rattle.pack.proofs.BytesLaws.{words-back}
 use Rattle.reasons.specs.declared.set.SetAnswer.{SetAnswer}
 use Rattle.reasons.specs.declared.set.SetAnswer.the-variants as sets
-use Rattle.reasons.specs.Reach.{moduleOf}
+use Rattle.reasons.specs.Computed.{moduleOf, printed}
 use Rattle.reasons.specs.Module.{moduleMarks, moduleOut, askModule, writtenModule}
-use Rattle.reasons.specs.Printed.{IsPrinted, printed}
 use Rattle.reasons.specs.Set.{setNumber, setValue, setMarks, setOut, askSet, writtenSet}
 use Rattle.reasons.proofs.ModuleLaws.{MarksModule, module-written, module-right, module-length}
-use Rattle.reasons.proofs.SetLaws.{set-length}
-use Rattle.reasons.proofs.SetRight.{set-found, set-printed}
+use Rattle.reasons.proofs.AnswerLaws.{set-length}
+use Rattle.reasons.proofs.SetRight.{MarksSet, set-found, set-printed}
 use Rattle.desk.specs.Desk.{deskCode, checkedCode, setCodeOf, askModuleC, moduleCode, moduleBytes, setCode, setBytes}
 
 -- bytes of the right length are 16 words
@@ -87,13 +86,12 @@ module _ (n m : ℕ) (s marks : List ℕ) (a b : ℕ) (out : List ℕ) where
       again sets.NotFollows ours blank after = refl
       again (sets.Count k) ours blank after = refl
 
-  -- THE SET CALL FOR C IS RIGHT: where the goal follows, the out bytes, read as marks, mark the printed set, and so many places
+  -- THE SET CALL FOR C IS RIGHT: where the goal follows, the out bytes, read as marks, mark exactly the printed set, and so many places
   pub set-call-right : Taken n m s (marksIn marks) a b → length out ≡ 128 → Follows (linesOf s) (counted s (marksIn marks)) a b
-      → IsPrinted (linesOf s) (counted s (marksIn marks)) a b (marked (marksIn (setBytes n m s marks a b out))) × (setCode n m s marks a b out ≡ deskCode 0 (markCount (marksIn (setBytes n m s marks a b out))))
+      → (k : ℕ) × (setCode n m s marks a b out ≡ deskCode 0 k) × MarksSet s (marksIn marks) a b k (marksIn (setBytes n m s marks a b out))
   unfolding setCode setBytes
   set-call-right t l f =
       let P = printed (linesOf s) (counted s (marksIn marks)) n m a b in
-      let found = set-found n m s (marksIn marks) a b t (marksIn out) (read-length out l) f in
-      let back = words-back (marksOf P) (marks-length P) (marks-small P) in
-      rw (found .1, found .0, back)
-      (rw (found .0) at (set-printed n m s (marksIn marks) a b t (marksIn out) (read-length out l) f), refl)
+      let right = set-printed n m s (marksIn marks) a b t (marksIn out) (read-length out l) f in
+      rw (right .1, words-back (marksOf P) (marks-length P) (marks-small P))
+      (right .0, refl, rw (set-found n m s (marksIn marks) a b t (marksIn out) (read-length out l) f .0) at (right .2))

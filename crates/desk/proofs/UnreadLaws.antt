@@ -19,7 +19,7 @@ use Rattle.engine.specs.Verdict.{askVerdict}
 use Rattle.writer.specs.Sheet.{askSheet, writtenSheet}
 use Rattle.reasons.proofs.OutLaws.{reason-unread}
 use Rattle.reasons.proofs.ModuleLaws.{module-refused}
-use Rattle.reasons.proofs.SetLaws.{set-refused}
+use Rattle.reasons.proofs.AnswerLaws.{set-refused}
 use Rattle.desk.specs.Desk.{checkedCode, questionCode, verdictCode, sheetCode, moduleCode, moduleBytes, setCode, setBytes}
 
 -- bytes of another length are no words

@@ -19,7 +19,8 @@ use Rattle.pack.proofs.RuleLaws.{usable-is, usable-more}
 use Rattle.pack.proofs.Soundness.{derived-follows}
 use Rattle.passes.specs.Passes.{verdict}
 use Rattle.passes.proofs.PassLaws.{table-holds, decides}
-use Rattle.reasons.specs.Printed.{Within, IsMinimal, IsPrinted, printed}
+use Rattle.reasons.specs.Printed.{Within, IsMinimal, IsPrinted}
+use Rattle.reasons.specs.Computed.{printed}
 use Rattle.reasons.specs.Reach.{Name, concept, role, leftNames, rightNames, allIn, moduleIn, IsModule}
 use Rattle.reasons.proofs.PickLaws.{picked-same}
 use Rattle.reasons.proofs.PrintedLaws.{follows-more, printed-minimal, printed-one, printed-is}

@@ -9,6 +9,7 @@ pub mod GivenLaws
 pub mod HalveLaws
 pub mod AskLaws
 pub mod NameLaws
-pub mod SetLaws
+pub mod FileLaws
+pub mod AnswerLaws
 pub mod SetRight
 pub mod ModuleLaws

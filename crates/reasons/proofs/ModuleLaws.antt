@@ -1,12 +1,13 @@
 -- Laws of the module call: the words that it finds, that they mark exactly the module, and that no second answer keeps its promise.
 use mathlib.Core.Path.{_≡_, refl, sym, _∙_}
-use mathlib.Core.Bool.{Bool, false, not, _&&_}
+use mathlib.Core.Bool.{Bool, true, false}
 use mathlib.Core.List.{List}
 use Prim.Native.Nat.{ℕ, _≤_, _<_}
 use native.Mathlib.Decide.{decLt}
 use native.Mathlib.Omega.{arith}
 use lib.ListN.{length}
 use Rattle.bits.proofs.Promises.{no-second}
+use Rattle.bits.proofs.Truth.{never}
 use Rattle.marks.specs.Marks.{marked, markCount, marksOf}
 use Rattle.marks.proofs.WordLaws.{marks-length, marked-of, marked-past, marks-alike}
 use Rattle.pack.specs.declared.check.Checked.{Checked}
@@ -19,8 +20,9 @@ use Rattle.pack.specs.Record.{linesOf, ValidLine, Valid}
 use Rattle.pack.specs.World.{lineAt}
 use Rattle.pack.proofs.QuestionLaws.{Asked, asked, asked-valid}
 use Rattle.pack.proofs.RecordLaws.{lines-length}
-use Rattle.reasons.specs.Reach.{Name, IsReached, moduleIn, IsModule, reached, moduleOf}
-use Rattle.reasons.specs.Names.{TakenOf, Unreached}
+use Rattle.reasons.specs.Reach.{Name, moduleIn, IsModule}
+use Rattle.reasons.specs.Computed.{reached, moduleOf}
+use Rattle.reasons.specs.Names.{TakenOf}
 use Rattle.reasons.specs.OutMarks.{checkReason}
 use Rattle.reasons.specs.Module.{moduleMarks, moduleAnswer, askModule, writtenModule}
 use Rattle.reasons.proofs.OutLaws.{reason-taken}
@@ -62,29 +64,17 @@ module _ (n m : ℕ) (s ws : List ℕ) (a : ℕ) (taken : TakenOf n m s ws a) wh
   unfolding moduleOf
   module-past i h = outside-unmarked (linesOf s) (counted s ws) (reached (linesOf s) (counted s ws) n m a) i (none-past i h)
 
-  -- THE WORDS FOUND WITH THE REACHED NAMES are those of the module, however the names were found
-  names-module : (R : Name → Bool) → IsReached (linesOf s) (counted s ws) a R → marksOf (moduleIn (linesOf s) (counted s ws) R) ≡ moduleMarks n m s ws a
-  names-module R r = marks-alike (moduleIn ls S R) (moduleOf ls S n m a) (λ i _. go i (decLt i (length ls)))
+  -- WORDS THAT MARK THE MODULE, and no place that does not count, are the module's, however it was found
+  pub module-found : (r : List ℕ) → (r ≡ marksOf (marked r)) × ((i : ℕ) → i < 1024 → marked r i ≡ true → counted s ws i ≡ true) × IsModule (linesOf s) (counted s ws) a (marked r) → r ≡ moduleMarks n m s ws a
+  module-found r p = p .0 ∙ marks-alike (marked r) (moduleOf (linesOf s) (counted s ws) n m a) (λ i few. go i few (decLt i (length (linesOf s))))
     where
-      ls : List Line
-      ls = linesOf s
+      none : (i : ℕ) → i < 1024 → length (linesOf s) ≤ i → (t : Bool) → marked r i ≡ t → t ≡ false
+      none i few h true e = never (p .1 i few e) (none-past i h)
+      none i few h false e = refl
 
-      S : ℕ → Bool
-      S = counted s ws
-
-      go : (i : ℕ) → Dec (i < length ls) → moduleIn ls S R i ≡ moduleOf ls S n m a i
-      go i (yes h) = module-one ls S a (moduleIn ls S R) (moduleOf ls S n m a) (record { names = R; reached = r; places = λ j l. refl }) (module-is ls S n m a lines-right (asked-of .goalA)) i h
-      go i (no h) = outside-unmarked ls S R i (none-past i (omega arith)) ∙ sym (module-past i (omega arith))
-
-  -- THE MARKS BUT FOR THE UNREACHED are the module's
-  pub unreached-module : (others : List ℕ) → Unreached (linesOf s) (counted s ws) a (marked others) → marksOf (λ i. marked ws i && not (marked others i)) ≡ moduleMarks n m s ws a
-  unreached-module others u =
-      marks-alike (λ i. marked ws i && not (marked others i)) (moduleIn (linesOf s) (counted s ws) (u .names)) (λ i _. go i (decLt i (length (linesOf s))))
-      ∙ names-module (u .names) (u .reached)
-    where
-      go : (i : ℕ) → Dec (i < length (linesOf s)) → (marked ws i && not (marked others i)) ≡ moduleIn (linesOf s) (counted s ws) (u .names) i
-      go i (yes h) = sym (u .places i h)
-      go i (no h) = rw (none-past i (omega arith)) (sym (outside-unmarked (linesOf s) (counted s ws) (u .names) i (none-past i (omega arith))))
+      go : (i : ℕ) → i < 1024 → Dec (i < length (linesOf s)) → marked r i ≡ moduleOf (linesOf s) (counted s ws) n m a i
+      go i few (yes h) = module-one (linesOf s) (counted s ws) a (marked r) (moduleOf (linesOf s) (counted s ws) n m a) (p .2) (module-is (linesOf s) (counted s ws) n m a lines-right (asked-of .goalA)) i h
+      go i few (no h) = none i few (omega arith) (marked r i) refl ∙ sym (module-past i (omega arith))
 
   -- THEY MARK EXACTLY THE MODULE
   pub marks-module : IsModule (linesOf s) (counted s ws) a (marked (moduleMarks n m s ws a))

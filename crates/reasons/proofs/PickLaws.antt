@@ -1,14 +1,15 @@
 -- Picking over any property F of place sets: there is one, ascending deletion finds it, and no place of it can be spared.
 use mathlib.Core.Path.{_≡_, refl, sym, ap, _∙_}
 use mathlib.Core.Logic.{_↔_}
-use mathlib.Core.Bool.{Bool, true, false, not, Bool-discrete, and-false, and-true}
+use mathlib.Core.Bool.{Bool, true, false, not, and-true, Bool-discrete}
 use Prim.Native.Nat.{ℕ, zero, suc, _+_, _≤_, _<_}
 use native.Mathlib.Decide.{ℕ-discrete, decLt}
 use native.Mathlib.Omega.{arith}
 use lib.Dec.{eqb}
 use borrow.Author.Tests.{eqb-false, eq-eqb, ne-eqb, not-true}
-use Rattle.bits.proofs.Truth.{both-true, never}
-use Rattle.reasons.specs.Printed.{Within, Differ, IsPicked, IsMinimal, without, spared, picked}
+use Rattle.bits.proofs.Truth.{both-true, and-no, never}
+use Rattle.reasons.specs.Printed.{Within, Differ, IsPicked, IsMinimal, without}
+use Rattle.reasons.specs.Computed.{spared, picked}
 
 -- one place taken out
 module _ (S : ℕ → Bool) (i : ℕ) where
@@ -22,7 +23,7 @@ module _ (S : ℕ → Bool) (i : ℕ) where
 
   without-self : without S i i ≡ false
   unfolding without
-  without-self = rw (eq-eqb i i refl) (and-false (S i))
+  without-self = rw (eq-eqb i i refl) (and-no (S i) false refl)
 
   -- a subset that lacks the place
   without-within : (len : ℕ) (Q : ℕ → Bool) → Within len Q S → Q i ≡ false → Within len Q (without S i)

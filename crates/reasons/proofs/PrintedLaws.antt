@@ -10,7 +10,8 @@ use Rattle.pack.specs.World.{Follows}
 use Rattle.pack.specs.Record.{Valid}
 use Rattle.passes.specs.Passes.{verdict}
 use Rattle.passes.proofs.PassLaws.{decides}
-use Rattle.reasons.specs.Printed.{Within, IsMinimal, IsPrinted, without, printed}
+use Rattle.reasons.specs.Printed.{Within, IsMinimal, IsPrinted, without}
+use Rattle.reasons.specs.Computed.{printed}
 use Rattle.reasons.proofs.PickLaws.{picked-one, picked-needs, picked-minimal, picked-is, picked-exists}
 
 -- WHAT FOLLOWS FROM A SET FOLLOWS FROM A LARGER ONE

@@ -18,7 +18,8 @@ use Rattle.passes.specs.Saturation.{holds, attempt, runs}
 use Rattle.passes.specs.Stop.{Later}
 use Rattle.passes.proofs.LoopLaws.{loop-keeps, gate-keeps, gate-later, loop-later, Comes, comes-trans, gate-comes, loop-comes}
 use Rattle.passes.proofs.SaturationLaws.{Built, Closed, Sweep, attempt-later, attempt-built, built-within, end-built, end-closed}
-use Rattle.reasons.specs.Reach.{Name, concept, role, leftNames, rightNames, allIn, Reaches, IsReached, moduleIn, IsModule, Arrow, sameName, nameAt, reach, bothSides, reachPass, reached, moduleOf}
+use Rattle.reasons.specs.Reach.{Name, concept, role, leftNames, rightNames, allIn, Reaches, IsReached, moduleIn, IsModule}
+use Rattle.reasons.specs.Computed.{Arrow, sameName, nameAt, reach, bothSides, reachPass, reached, moduleOf}
 
 pub name-self : (x : Name) → sameName x x ≡ true
 unfolding sameName

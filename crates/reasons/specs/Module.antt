@@ -9,7 +9,7 @@ use Rattle.pack.specs.declared.check.Checked.the-variants.{Refused, Count}
 use Rattle.pack.specs.Question.{counted}
 use Rattle.pack.specs.Record.{linesOf}
 use Rattle.reasons.specs.OutMarks.{checkReason, reasonTable}
-use Rattle.reasons.specs.Reach.{moduleOf}
+use Rattle.reasons.specs.Computed.{moduleOf}
 
 -- the marks of the module for a
 abbrev pub moduleMarks : ℕ → ℕ → List ℕ → List ℕ → ℕ → List ℕ

@@ -1,15 +1,17 @@
--- The names of a question as the code keeps them, a bit for each, and what the functions that reach them promise each other. No public promise cites this page.
+-- The names of a question as the code keeps them, a bit for each, and what the functions that reach them promise each other. Only functions that docs/PROMISES.md lists as inner cite this page.
 use mathlib.Core.Path.{_≡_}
-use mathlib.Core.Bool.{Bool, true, false, cond, not, _&&_}
+use mathlib.Core.Bool.{Bool, true, false, cond}
 use mathlib.Core.List.{List, [], _∷_}
-use Prim.Native.Nat.{ℕ, _<_}
+use Prim.Native.Nat.{ℕ, _+_, _-_, _*_, _%_, _≤_, _<_}
+use lib.Dec.{ltb}
 use lib.ListN.{length}
 use Rattle.bits.specs.Bit.{has, withBit}
+use Rattle.marks.specs.Marks.{marked}
 use Rattle.pack.specs.declared.line.Line.{Line}
 use Rattle.pack.specs.Question.{Taken}
 use Rattle.pack.specs.World.{lineAt}
 use Rattle.reasons.specs.declared.reach.Names.{Names}
-use Rattle.reasons.specs.Reach.{Name, concept, role, leftNames, rightNames, allIn, Reaches, IsReached, moduleIn}
+use Rattle.reasons.specs.Reach.{Name, concept, role, leftNames, rightNames, allIn, Reaches}
 
 -- a name is among the names when its bit is set
 abbrev pub nameIn : Names → Name → Bool
@@ -32,20 +34,56 @@ withLine ns l = cond (allIn (nameIn ns) (leftNames l)) (withNames ns (rightNames
 abbrev pub Inside : (Name → Bool) → (Name → Bool) → Type 0
 Inside R R′ = (x : Name) → R x ≡ true → R′ x ≡ true
 
--- what a pass over the lines of T before place k makes of R and T: no name is lost, none comes that a set which `Reaches`
--- can lack; of the places that are gone both sides are in R′, and of those that wait still the left side was not in R
-pub record Passed (ls : List Line) (T T′ : ℕ → Bool) (k : ℕ) (R R′ : Name → Bool) : Type 0 where
-  pub keeps : Inside R R′
-  pub fewer : (i : ℕ) → T′ i ≡ true → T i ≡ true
-  pub least : (a : ℕ) (Q : Name → Bool) → Reaches ls T a Q → Inside R Q → Inside R′ Q
-  pub gone : (i : ℕ) → i < length ls → T i ≡ true → T′ i ≡ false → (allIn R′ (leftNames (lineAt ls i)) ≡ true) × (allIn R′ (rightNames (lineAt ls i)) ≡ true)
-  pub lacks : (i : ℕ) → i < k → i < length ls → T′ i ≡ true → allIn R (leftNames (lineAt ls i)) ≡ false
+-- both sides of a line are in R
+abbrev pub BothSides : (Name → Bool) → Line → Type 0
+BothSides R l = (allIn R (leftNames l) ≡ true) × (allIn R (rightNames l) ≡ true)
 
--- the places of S whose left side is not reached from a
-pub record Unreached (ls : List Line) (S : ℕ → Bool) (a : ℕ) (T : ℕ → Bool) : Type 0 where
-  pub names : Name → Bool
-  pub reached : IsReached ls S a names
-  pub places : (i : ℕ) → i < length ls → moduleIn ls S names i ≡ (S i && not (T i))
+-- a record is filed under the number of a name that it waits for, and under 128 where it waits for none
+abbrev pub numberOf : Name → ℕ
+numberOf (concept x) = x % 64
+numberOf (role r) = 64 + r % 64
+
+-- the name of a number below 128
+unfoldable pub numbered : ℕ → Name
+numbered k = elim (ltb k 64) [ true ↦ concept k | false ↦ role (k - 64) ]
+
+-- the number of the first name of a list that R lacks, or 128
+unfoldable pub waitsFor : (Name → Bool) → List Name → ℕ
+waitsFor R [] = 128
+waitsFor R (x ∷ xs) = let later : ℕ = waitsFor R xs in cond (R x) later (numberOf x)
+
+-- the files are 1,024 marks for each number: is place i filed under x?
+abbrev pub filed : List ℕ → ℕ → ℕ → Bool
+filed files x i = marked files (x * 1024 + i)
+
+-- of the names of a list, R lacks one of number x
+pub record Lacks (R : Name → Bool) (xs : List Name) (x : ℕ) : Type 0 where
+  pub name : Name
+  pub number : numberOf name ≡ x
+  pub lacks : R name ≡ false
+  pub needs : (Q : Name → Bool) → allIn Q xs ≡ true → Q name ≡ true
+
+-- place i is filed: under 128, or under the number of a left-side name that R lacks
+pub record Filed (ls : List Line) (files : List ℕ) (R : Name → Bool) (i : ℕ) : Type 0 where
+  pub number : ℕ
+  pub there : filed files number i ≡ true
+  pub waits : (number ≡ 128 → ⊥) → Lacks R (leftNames (lineAt ls i)) number
+
+-- what a walk over the places of D before k makes of the files and of R: no name is lost, and none comes that a set which
+-- `Reaches` can lack; nothing filed is lost, and what comes is a place of D, under 128 only with both sides in R′; and
+-- each of these places is filed
+pub record Walked (ls : List Line) (D : ℕ → Bool) (k : ℕ) (files files′ : List ℕ) (R R′ : Name → Bool) : Type 0 where
+  pub keeps : Inside R R′
+  pub least : (a : ℕ) (Q : Name → Bool) → Reaches ls D a Q → Inside R Q → Inside R′ Q
+  pub stays : (x i : ℕ) → filed files x i ≡ true → filed files′ x i ≡ true
+  pub comes : (x i : ℕ) → i < 1024 → filed files′ x i ≡ true → filed files x i ≡ false → (D i ≡ true) × (x ≡ 128 → BothSides R′ (lineAt ls i))
+  pub placed : (i : ℕ) → i < k → i < length ls → D i ≡ true → Filed ls files′ R i
+
+-- the number of a name of one set that the other lacks, or 128
+pub record Fresh (names done : Names) (x : ℕ) : Type 0 where
+  pub most : x ≤ 128
+  pub some : x < 128 → (nameIn names (numbered x) ≡ true) × (nameIn done (numbered x) ≡ false)
+  pub none : x ≡ 128 → Inside (nameIn names) (nameIn done)
 
 -- a question about a, with some b, is taken
 abbrev pub TakenOf : ℕ → ℕ → List ℕ → List ℕ → ℕ → Type 0

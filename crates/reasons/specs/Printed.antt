@@ -2,12 +2,11 @@
 use mathlib.Core.Path.{_≡_}
 use mathlib.Core.Bool.{Bool, true, false, not, _&&_}
 use mathlib.Core.List.{List}
-use Prim.Native.Nat.{ℕ, zero, suc, _+_, _<_}
+use Prim.Native.Nat.{ℕ, _<_}
 use lib.Dec.{eqb}
 use lib.ListN.{length}
 use Rattle.pack.specs.declared.line.Line.{Line}
 use Rattle.pack.specs.World.{Follows}
-use Rattle.passes.specs.Passes.{verdict}
 
 -- each place of P is one of Q
 abbrev pub Within : ℕ → (ℕ → Bool) → (ℕ → Bool) → Type 0
@@ -34,17 +33,6 @@ pub record IsMinimal (len : ℕ) (F : (ℕ → Bool) → Type 0) (P : ℕ → Bo
 unfoldable pub without : (ℕ → Bool) → ℕ → ℕ → Bool
 without S i j = S j && not (eqb j i)
 
--- of c places from i on, ascending, each goes where D says yes without it
-unfoldable pub spared : ((ℕ → Bool) → Bool) → ℕ → ℕ → (ℕ → Bool) → ℕ → Bool
-spared D zero i S = S
-spared D (suc c) i S = elim (D (without S i)) [ true ↦ spared D c (i + 1) (without S i) | false ↦ spared D c (i + 1) S ]
-
-unfoldable pub picked : ((ℕ → Bool) → Bool) → ℕ → (ℕ → Bool) → ℕ → Bool
-picked D len S = spared D len 0 S
-
 -- THE PRINTED SET: of the subsets of the marked records from which the goal follows
 abbrev pub IsPrinted : List Line → (ℕ → Bool) → ℕ → ℕ → (ℕ → Bool) → Type 0
 IsPrinted ls S a b = IsPicked (length ls) (λ P. Follows ls P a b) S
-
-unfoldable pub printed : List Line → (ℕ → Bool) → ℕ → ℕ → ℕ → ℕ → ℕ → Bool
-printed ls S n m a b = picked (λ P. verdict ls P n m a b) (length ls) S

@@ -16,7 +16,7 @@ use Rattle.engine.specs.Verdict.{tooLong, follows, askVerdict}
 use Rattle.reasons.specs.declared.set.SetAnswer.{SetAnswer}
 use Rattle.reasons.specs.declared.set.SetAnswer.the-variants as answer
 use Rattle.reasons.specs.OutMarks.{checkReason, reasonTable}
-use Rattle.reasons.specs.Printed.{printed}
+use Rattle.reasons.specs.Computed.{printed}
 
 -- the marks of the printed set
 abbrev pub setMarks : ℕ → ℕ → List ℕ → List ℕ → ℕ → ℕ → List ℕ

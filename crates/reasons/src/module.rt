@@ -7,8 +7,7 @@ ghost use Rattle.pack.specs.Table.{Given};
 ghost use Rattle.reasons.specs.Names.{TakenOf};
 ghost use Rattle.reasons.specs.Module.{moduleMarks, askModule, writtenModule, moduleTable};
 use crate::out::check_reason;
-use crate::reach::unreached;
-use marks::change::marks_without;
+use crate::reach::reached_records;
 use marks::change::put_marks;
 use marks::look::count_marked;
 use pack::check::Checked;
@@ -18,8 +17,7 @@ pub fn module_of<'a>(n: usize, m: usize, pack: &'a [u8], marks: &'a [u64], a: us
     requires { ⌜ TakenOf n m (now pack) (now marks) a ⌝ }
     ensures { λ r. ⌜ r ≡ moduleMarks n m (now (pack .entry)) (now (marks .entry)) a ⌝ }
 {
-    let others = unreached(pack, marks, a as u8);
-    marks_without(marks, &others)
+    reached_records(pack, marks, a as u8)
 }
 
 // The module of a question that is taken into the out marks, and how many records they mark.

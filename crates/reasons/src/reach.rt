@@ -1,17 +1,15 @@
-// The names reached from a concept: passes over the records that wait until one adds no name.
+// The names reached from a concept, and the records that they reach: a record waits for a name of its left side that is not there.
 ghost use mathlib.Core.Path.{_≡_};
-ghost use mathlib.Core.Bool.{not, _&&_};
-ghost use Prim.Native.Nat.{ℕ, _≤_, _<_};
+ghost use mathlib.Core.Bool.{true, cond, _||_};
+ghost use Prim.Native.Nat.{ℕ, _+_, _*_, _/_, _≤_, _<_};
 ghost use lib.Dec.{eqb};
 ghost use lib.ListN.{length};
-ghost use Rattle.bits.specs.Bit.{has};
-ghost use Rattle.marks.specs.Marks.{marked};
+ghost use Rattle.marks.specs.Marks.{marked, marksOf};
 ghost use Rattle.pack.specs.Question.{counted};
 ghost use Rattle.pack.specs.Record.{linesOf, ValidLine, Valid};
-ghost use Rattle.reasons.specs.Reach.{concept, role, leftNames, rightNames, allIn};
-ghost use Rattle.reasons.specs.Names.{nameIn, withName, withNames, withLine, Passed, Unreached};
+ghost use Rattle.reasons.specs.Reach.{concept, role, leftNames, rightNames, IsModule};
+ghost use Rattle.reasons.specs.Names.{nameIn, withName, withNames, withLine, numberOf, numbered, waitsFor, filed, Walked, Fresh};
 use marks::change::cut_marks;
-use marks::change::unmark;
 use marks::look::next_marked;
 use pack::line::Line;
 use pack::line::line_at;
@@ -22,40 +20,44 @@ pub struct Names {
     pub roles: u64,
 }
 
-// Is the bit of a name set?
-fn one_set(w: u64, x: u8) -> bool
+// The number of a name that is not there; of one that is, what comes next.
+fn unless_concept(names: Names, x: u8, next: usize) -> usize
     requires { ⌜ x < 64 ⌝ }
-    ensures { λ r. ⌜ r ≡ has w x ⌝ }
+    ensures { λ r. ⌜ r ≡ cond (nameIn names (concept x)) next (numberOf (concept x)) ⌝ }
 {
-    bits::test_bit(w, x as usize)
-}
-
-// Are the bits of two names set?
-fn both_set(w: u64, x: u8, v: u64, y: u8) -> bool
-    requires { ⌜ (x < 64) × (y < 64) ⌝ }
-    ensures { λ r. ⌜ r ≡ (has w x && has v y) ⌝ }
-{
-    if one_set(w, x) {
-        return one_set(v, y);
+    if bits::test_bit(names.concepts, x as usize) {
+        return next;
     }
-    false
+    x as usize
 }
 
-// Are all names of the line's left side reached?
-fn left_reached(l: Line, names: Names) -> bool
-    requires { ⌜ ValidLine 64 8 l ⌝ }
-    ensures { λ r. ⌜ r ≡ allIn (nameIn names) (leftNames l) ⌝ }
+fn unless_role(names: Names, x: u8, next: usize) -> usize
+    requires { ⌜ x < 64 ⌝ }
+    ensures { λ r. ⌜ r ≡ cond (nameIn names (role x)) next (numberOf (role x)) ⌝ }
 {
-    let concepts = names.concepts;
-    let roles = names.roles;
+    if bits::test_bit(names.roles, x as usize) {
+        return next;
+    }
+    64 + x as usize
+}
+
+// The number of the first name of the line's left side that is not there; 128 where all are.
+fn waits_for(l: Line, names: Names) -> usize
+    requires { ⌜ ValidLine 64 8 l ⌝ }
+    ensures { λ r. ⌜ r ≡ waitsFor (nameIn names) (leftNames l) ⌝ }
+{
     match l {
-        Line::Under { a, b: _ } => one_set(concepts, a),
-        Line::BothUnder { a1, a2, b: _ } => both_set(concepts, a1, concepts, a2),
-        Line::UnderSome { a, r: _, b: _ } => one_set(concepts, a),
-        Line::SomeUnder { r, a, b: _ } => both_set(roles, r, concepts, a),
-        Line::RoleUnder { r, s: _ } => one_set(roles, r),
-        Line::ChainUnder { r, s, t: _ } => both_set(roles, r, roles, s),
-        Line::NoLine => true,
+        Line::Under { a, b: _ } => unless_concept(names, a, 128),
+        Line::BothUnder { a1, a2, b: _ } => unless_concept(
+            names,
+            a1,
+            unless_concept(names, a2, 128),
+        ),
+        Line::UnderSome { a, r: _, b: _ } => unless_concept(names, a, 128),
+        Line::SomeUnder { r, a, b: _ } => unless_role(names, r, unless_concept(names, a, 128)),
+        Line::RoleUnder { r, s: _ } => unless_role(names, r, 128),
+        Line::ChainUnder { r, s, t: _ } => unless_role(names, r, unless_role(names, s, 128)),
+        Line::NoLine => 128,
     }
 }
 
@@ -96,60 +98,94 @@ fn with_right(l: Line, names: Names) -> Names
     }
 }
 
-// The line at place i: with all names of its left side those of its right side, and then the place waits no longer.
-fn reach_line(l: Line, i: usize, names: Names, waiting: &mut [u64]) -> Names
-    requires { ⌜ ValidLine 64 8 l × (length (now waiting) ≡ 16) × (i < 1024) ⌝ }
-    ensures names { λ r. ⌜ r ≡ withLine names l ⌝ }
-    ensures waiting { λ r. ⌜ (length (now (waiting .exit)) ≡ 16) × ((k : ℕ) → marked (now (waiting .exit)) k ≡ (marked (now (waiting .entry)) k && not (allIn (nameIn names) (leftNames l) && eqb i k))) ⌝ }
+// The names with that of a number.
+fn with_number(names: Names, x: usize) -> Names
+    requires { ⌜ x < 128 ⌝ }
+    ensures { λ r. ⌜ r ≡ withName names (numbered x) ⌝ }
 {
-    if left_reached(l, names) {
-        unmark(waiting, i);
+    if x < 64 {
+        return with_concept(names, x as u8);
+    }
+    with_role(names, (x - 64) as u8)
+}
+
+// The number of a name that is among the names and not yet done; 128 where all are done.
+fn next_name(names: Names, done: Names) -> usize
+    ensures { λ r. ⌜ Fresh names done r ⌝ }
+{
+    let x = bits::next_bit(bits::lacking(names.concepts, done.concepts), 0);
+    if x < 64 {
+        return x;
+    }
+    64 + bits::next_bit(bits::lacking(names.roles, done.roles), 0)
+}
+
+// Place i marked too.
+fn mark(marks: &mut [u64], i: usize)
+    requires { ⌜ i / 64 < length (now marks) ⌝ }
+    ensures { λ _. ⌜ (length (now (marks .exit)) ≡ length (now (marks .entry))) × ((k : ℕ) → marked (now (marks .exit)) k ≡ (marked (now (marks .entry)) k || eqb i k)) ⌝ }
+{
+    let at = i / 64;
+    let w = bits::with_bit(marks[at], i);
+    marks[at] = w;
+}
+
+// The places filed under a number, copied: of its 16 words nothing is cut out.
+fn filed_under(files: &[u64], x: usize) -> [u64; 16]
+    requires { ⌜ (length (now files) ≡ 2064) × (x ≤ 128) ⌝ }
+    ensures { λ r. ⌜ (r ≡ marksOf (marked r)) × ((i : ℕ) → i < 1024 → marked r i ≡ filed (now (files .entry)) x i) ⌝ }
+{
+    let at = x * 16;
+    let end = at + 16;
+    cut_marks(&files[at..end], 0, 0)
+}
+
+// The line at place i: filed under a name of its left side that is not there; or its right side comes in.
+fn reach_line(l: Line, i: usize, names: Names, files: &mut [u64]) -> Names
+    requires { ⌜ ValidLine 64 8 l × (length (now files) ≡ 2064) × (i < 1024) ⌝ }
+    ensures names { λ r. ⌜ r ≡ withLine names l ⌝ }
+    ensures files { λ r. ⌜ (length (now (files .exit)) ≡ 2064) × ((k : ℕ) → marked (now (files .exit)) k ≡ (marked (now (files .entry)) k || eqb (waitsFor (nameIn names) (leftNames l) * 1024 + i) k)) ⌝ }
+{
+    let x = waits_for(l, names);
+    mark(files, x * 1024 + i);
+    if x == 128 {
         return with_right(l, names);
     }
     names
 }
 
-// A pass: each record that waits, by place.
-fn reach_pass(pack: &[u8], names: Names, waiting: &mut [u64]) -> Names
-    requires { ⌜ Valid 64 8 (linesOf (now pack)) × (length (now pack) ≤ 8192) × (length (now waiting) ≡ 16) ⌝ }
-    ensures { λ r. ⌜ (length (now (waiting .exit)) ≡ 16) × Passed (linesOf (now (pack .entry))) (marked (now (waiting .entry))) (marked (now (waiting .exit))) (length (linesOf (now (pack .entry)))) (nameIn names) (nameIn r) ⌝ }
+// Each record of the places, in turn.
+fn reach_places<'a>(pack: &'a [u8], places: &'a [u64], names: Names, files: &mut [u64]) -> Names
+    requires { ⌜ Valid 64 8 (linesOf (now pack)) × (length (now pack) ≤ 8192) × (length (now files) ≡ 2064) ⌝ }
+    ensures { λ r. ⌜ (length (now (files .exit)) ≡ 2064) × Walked (linesOf (now (pack .entry))) (marked (now (places .entry))) (length (linesOf (now (pack .entry)))) (now (files .entry)) (now (files .exit)) (nameIn names) (nameIn r) ⌝ }
 {
     let records = pack.len() / 8;
     let mut reached = names;
-    let mut i = next_marked(waiting, 0);
+    let mut i = next_marked(places, 0);
     while i < records {
-        reached = reach_line(line_at(pack, i), i, reached, waiting);
-        i = next_marked(waiting, i + 1);
+        reached = reach_line(line_at(pack, i), i, reached, files);
+        i = next_marked(places, i + 1);
     }
     reached
 }
 
-// Are they the same names?
-fn same_names(one: Names, other: Names) -> bool
-    ensures { λ r. ⌜ r ≡ (eqb (one .concepts) (other .concepts) && eqb (one .roles) (other .roles)) ⌝ }
-{
-    if one.concepts == other.concepts {
-        return one.roles == other.roles;
-    }
-    false
-}
-
-// The records that count and whose left side concept a does not reach: what waits still, of a copy of the marks, when a pass adds no name.
-pub fn unreached<'a>(pack: &'a [u8], marks: &'a [u64], a: u8) -> [u64; 16]
+// The marks of the module for concept a: all marked records, and then, name by name, those that wait for it.
+pub fn reached_records<'a>(pack: &'a [u8], marks: &'a [u64], a: u8) -> [u64; 16]
     requires { ⌜ Valid 64 8 (linesOf (now pack)) × (length (now pack) ≤ 8192) × (length (now marks) ≡ 16) × (a < 64) ⌝ }
-    ensures { λ r. ⌜ (length r ≡ 16) × Unreached (linesOf (now (pack .entry))) (counted (now (pack .entry)) (now (marks .entry))) a (marked r) ⌝ }
+    ensures { λ r. ⌜ (r ≡ marksOf (marked r)) × ((i : ℕ) → i < 1024 → marked r i ≡ true → counted (now (pack .entry)) (now (marks .entry)) i ≡ true) × IsModule (linesOf (now (pack .entry))) (counted (now (pack .entry)) (now (marks .entry))) a (marked r) ⌝ }
 {
-    let none = Names {
+    let mut done = Names {
         concepts: 0,
         roles: 0,
     };
-    let mut names = with_concept(none, a);
-    let mut waiting = cut_marks(marks, 0, 0);
-    loop {
-        let next = reach_pass(pack, names, &mut waiting);
-        if same_names(next, names) {
-            return waiting;
-        }
-        names = next;
+    let mut files = [0u64; 2064];
+    let mut names = reach_places(pack, marks, with_concept(done, a), &mut files);
+    let mut x = next_name(names, done);
+    while x < 128 {
+        done = with_number(done, x);
+        let places = filed_under(&files, x);
+        names = reach_places(pack, &places, names, &mut files);
+        x = next_name(names, done);
     }
+    filed_under(&files, 128)
 }

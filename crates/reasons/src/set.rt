@@ -1,5 +1,6 @@
 // The printed set: numbers 1 to 7 of document 01's table, else the set in the out marks and the number of its records.
 ghost use mathlib.Core.Path.{_≡_};
+ghost use mathlib.Core.Bool.{true, false};
 ghost use lib.ListN.{length};
 ghost use Rattle.marks.specs.Marks.{markCount};
 ghost use Rattle.pack.specs.Question.{counted, Taken};
@@ -12,9 +13,7 @@ ghost use Rattle.reasons.specs.Set.{setMarks, setAfter, setOut, askSet, 
 use crate::halve::pick;
 use crate::module::module_of;
 use crate::out::check_reason;
-use engine::verdict::VerdictAnswer;
-use engine::verdict::verdict;
-use marks::change::cut_marks;
+use engine::verdict::goal_follows;
 use marks::change::put_marks;
 use marks::look::count_marked;
 use pack::check::Checked;
@@ -28,13 +27,13 @@ pub enum SetAnswer {
     Count(u32),
 }
 
-// The marks of the printed set of a goal that follows: picked from its module. For A equal to B nothing is needed, and all is cut out.
+// The marks of the printed set of a goal that follows: picked from its module. For A equal to B no record is needed.
 fn set_of<'a>(n: usize, m: usize, pack: &'a [u8], marks: &'a [u64], a: usize, b: usize) -> [u64; 16]
     requires { ⌜ Taken n m (now pack) (now marks) a b × Follows (linesOf (now pack)) (counted (now pack) (now marks)) a b ⌝ }
     ensures { λ r. ⌜ r ≡ setMarks n m (now (pack .entry)) (now (marks .entry)) a b ⌝ }
 {
     if a == b {
-        return cut_marks(marks, 0, 1024);
+        return [0u64; 16];
     }
     let inside = module_of(n, m, pack, marks, a);
     pick(n, m, pack, inside, a, b)
@@ -58,7 +57,18 @@ fn put_set<'a>(
     SetAnswer::Count(count_marked(out))
 }
 
-// The set of a question that is taken where the goal follows, else 6 or 7 and the out marks as they were.
+// Does the goal of a question that is taken follow? A is under A always.
+fn goal_holds<'a>(n: usize, m: usize, pack: &'a [u8], marks: &'a [u64], a: usize, b: usize) -> bool
+    requires { ⌜ Taken n m (now pack) (now marks) a b ⌝ }
+    ensures { λ r. ⌜ (r ≡ true → Follows (linesOf (now (pack .entry))) (counted (now (pack .entry)) (now (marks .entry))) a b) × (r ≡ false → Follows (linesOf (now (pack .entry))) (counted (now (pack .entry)) (now (marks .entry))) a b → ⊥) ⌝ }
+{
+    if a == b {
+        return true;
+    }
+    goal_follows(n, m, pack, marks, a, b)
+}
+
+// The set of a question that is taken where the goal follows, else 7 and the out marks as they were. 6 is never: the passes add 36,800 facts at most.
 fn set_taken<'a>(
     n: usize,
     m: usize,
@@ -71,13 +81,10 @@ fn set_taken<'a>(
     requires { ⌜ Taken n m (now pack) (now marks) a b × (length (now out) ≡ 16) ⌝ }
     ensures { λ r. ⌜ (r ≡ setAfter (askVerdict n m (now (pack .entry)) (now (marks .entry)) a b) (setMarks n m (now (pack .entry)) (now (marks .entry)) a b)) × (now (out .exit) ≡ setOut r (setMarks n m (now (pack .entry)) (now (marks .entry)) a b) (now (out .entry))) ⌝ }
 {
-    let answer = verdict(n, m, pack, marks, a, b);
-    match answer {
-        VerdictAnswer::Refused(why) => SetAnswer::Refused(why),
-        VerdictAnswer::TooLong => SetAnswer::TooLong,
-        VerdictAnswer::Not => SetAnswer::NotFollows,
-        VerdictAnswer::Follows => put_set(n, m, pack, marks, a, b, out),
+    if goal_holds(n, m, pack, marks, a, b) {
+        return put_set(n, m, pack, marks, a, b, out);
     }
+    SetAnswer::NotFollows
 }
 
 // The printed set, for any input and any lent out marks.

@@ -3,7 +3,7 @@ use mathlib.Core.Path.{sym, _∙_}
 use borrow.Author.Needs.{needs}
 use Rattle.reasons.proofs.OutLaws.{reason-taken}
 use Rattle.reasons.proofs.GivenLaws.{set-told}
-use Rattle.reasons.proofs.SetLaws.{set-refused, set-asked}
+use Rattle.reasons.proofs.AnswerLaws.{set-refused, set-asked}
 use Rattle.reasons.proofs.set.printed_set.Statement.{statement}
 use Rattle.reasons.proofs.set.printed_set.Tie as tie
 

@@ -1,15 +1,12 @@
--- `set_of`: for a equal to b everything is cut out (`same-words`); else the goal follows from the module
+-- `set_of`: for a equal to b no record is needed (`same-words`); else the goal follows from the module
 -- (`inside-follows`), and what is picked from the module is the printed set (`inside-set`).
 use borrow.Author.Needs.{needs}
-use Rattle.reasons.proofs.SetLaws.{same-words, inside-taken, inside-words, inside-follows, inside-set}
+use Rattle.reasons.proofs.AnswerLaws.{same-words, inside-taken, inside-words, inside-follows, inside-set}
 use Rattle.reasons.proofs.set.set_of.Statement.{statement}
 use Rattle.reasons.proofs.set.set_of.Tie as tie
 
-cut-marks-requires : tie.Need-cut-marks-requires
-cut-marks-requires c κs = search needs
-
 returns : tie.Need-returns
-returns c = let pre = c .before .before .before .before .pre in same-words _ _ _ _ _ _ (pre .0) (pre .1) (c .before .if1 .taken) _ (c .cut-marks .ensures)
+returns c = let pre = c .before .before .before .pre in same-words _ _ _ _ _ _ (pre .0) (pre .1) (c .if1 .taken)
 
 module-of-requires : tie.Need-module-of-requires
 module-of-requires c κs = (_, c .before .before .before .pre .0)
@@ -25,4 +22,4 @@ returns-2 c = let pre = c .before .before .before .before .before .pre in inside
 
 pub set-of-spec : {M : Type 1} → statement M
 set-of-spec =
-    tie.close (tie.spec cut-marks-requires returns module-of-requires pick-requires returns-2)
+    tie.close (tie.spec returns module-of-requires pick-requires returns-2)

@@ -5,11 +5,12 @@ use mathlib.Core.List.{List}
 use Prim.Native.Nat.{ℕ, zero, suc, _+_, _≤_, _<_}
 use native.Mathlib.Decide.{decLt}
 use native.Mathlib.Omega.{arith}
-use lib.ListN.{length}
+use lib.ListN.{length, replicate}
+use Rattle.bits.specs.Bit.{row}
+use Rattle.bits.specs.Lists.{listed}
 use Rattle.bits.proofs.Truth.{never}
-use Rattle.marks.specs.Marks.{marked, marksOf, cutOut}
-use Rattle.marks.proofs.WordLaws.{marks-length, marks-alike, marks-again}
-use Rattle.marks.proofs.CutLaws.{cut-gone, cut-fewer, cut-marked}
+use Rattle.marks.specs.Marks.{marked, marksOf}
+use Rattle.marks.proofs.WordLaws.{marks-length, marked-of, marked-past, marks-alike, marks-again}
 use Rattle.pack.specs.declared.check.Checked.the-variants as checked
 use Rattle.pack.specs.declared.check.Refusal.{Refusal}
 use Rattle.pack.specs.Question.{counted, Taken}
@@ -20,15 +21,17 @@ use Rattle.passes.specs.Passes.{verdict}
 use Rattle.engine.specs.Verdict.{askVerdict}
 use Rattle.reasons.specs.declared.set.SetAnswer.the-variants as answer
 use Rattle.reasons.specs.Names.{TakenOf}
-use Rattle.reasons.specs.Printed.{IsPicked, IsPrinted, without, spared, picked, printed}
-use Rattle.reasons.specs.Reach.{IsModule, moduleOf}
+use Rattle.reasons.specs.Printed.{IsPicked, IsPrinted, without}
+use Rattle.reasons.specs.Computed.{moduleOf, spared, picked, printed}
+use Rattle.reasons.specs.Reach.{IsModule}
 use Rattle.reasons.specs.OutMarks.{checkReason}
 use Rattle.reasons.specs.Set.{setMarks, setAfter, setOut, askSet, writtenSet}
 use Rattle.reasons.proofs.PickLaws.{without-true}
 use Rattle.reasons.proofs.PrintedLaws.{printed-is, printed-one}
 use Rattle.reasons.proofs.InsideLaws.{inside-true, module-follows, inside-printed}
 use Rattle.reasons.proofs.ModuleLaws.{none-past, marks-module, marks-past}
-use Rattle.reasons.proofs.AskLaws.{taken-sixteen, lines-most, fewer-taken}
+use Rattle.reasons.proofs.AskLaws.{fewer-taken}
+use Rattle.reasons.proofs.FileLaws.{clear-marked}
 
 -- deletion only takes away
 module _ (D : (ℕ → Bool) → Bool) where
@@ -40,6 +43,11 @@ module _ (D : (ℕ → Bool) → Bool) where
       go : (t : Bool) → (let left : ℕ → Bool = elim t [ true ↦ spared D c (i + 1) (without S i) | false ↦ spared D c (i + 1) S ] in left j ≡ true) → (spared D c (i + 1) (without S i) j ≡ true → without S i j ≡ true) → (spared D c (i + 1) S j ≡ true → S j ≡ true) → S j ≡ true
       go true g spare keep = without-true S i j (spare g) .0
       go false g spare keep = keep g
+
+-- clear words are those of no place
+clear-words : replicate 16 0 ≡ marksOf (λ _. false)
+unfolding marksOf listed row
+clear-words = refl
 
 module _ (n m : ℕ) (s ws : List ℕ) (a b : ℕ) (t : Taken n m s ws a b) (f : Follows (linesOf s) (counted s ws) a b) where
   -- it is a question about a
@@ -68,17 +76,25 @@ module _ (n m : ℕ) (s ws : List ℕ) (a b : ℕ) (t : Taken n m s ws a b) (f :
           (printed-is (linesOf s) n m a b (asked-valid n m s ws a b (t .1)) (asked n m s ws a b (t .1) .pack .n-some) (asked n m s ws a b (t .1) .goalA) (counted s ws) f) i l
       go i (no l) = past-none (marked r) fewer i (omega arith) ∙ sym (past-none (printed (linesOf s) (counted s ws) n m a b) printed-fewer i (omega arith))
 
-  -- A EQUAL TO B: everything goes
-  pub same-words : a ≡ b → (r : List ℕ) → r ≡ marksOf (cutOut (marked ws) 0 1024) → r ≡ setMarks n m s ws a b
-  same-words same r e =
-      set-words r (marks-again (cutOut (marked ws) 0 1024) r e) (λ i h. cut-fewer (marked ws) 0 1024 i (sym (is i) ∙ h)) (record {
-        within = λ i l h. cut-fewer (marked ws) 0 1024 i (sym (is i) ∙ h);
-        holds = λ w k o x l h. rw (← same) h;
-        lacks = λ Q w g i d. is i ∙ cut-gone (marked ws) 0 1024 i (omega arith) (omega (arith, d .inside, lines-most n m s ws a b t));
-      })
+  -- of the set's words: each place that they mark counts, and none is past the records
+  pub words-within : (i : ℕ) → marked (setMarks n m s ws a b) i ≡ true → counted s ws i ≡ true
+  words-within i h = go (decLt i 1024)
     where
-      is : (i : ℕ) → marked r i ≡ cutOut (marked ws) 0 1024 i
-      is i = ap (λ (v : List ℕ). marked v i) e ∙ ap (λ (p : ℕ → Bool). p i) (cut-marked ws 0 1024 (taken-sixteen n m s ws a b t))
+      go : Dec (i < 1024) → counted s ws i ≡ true
+      go (yes l) = printed-fewer i (sym (marked-of (printed (linesOf s) (counted s ws) n m a b) i l) ∙ h)
+      go (no l) = never h (marked-past (printed (linesOf s) (counted s ws) n m a b) i (omega arith))
+
+  pub words-past : (i : ℕ) → length (linesOf s) ≤ i → marked (setMarks n m s ws a b) i ≡ false
+  words-past = past-none (marked (setMarks n m s ws a b)) words-within
+
+  -- A EQUAL TO B: no record is needed
+  pub same-words : a ≡ b → replicate 16 0 ≡ setMarks n m s ws a b
+  same-words same =
+      set-words (replicate 16 0) (marks-again (λ _. false) (replicate 16 0) clear-words) (λ i h. never h (clear-marked 16 i)) (record {
+        within = λ i l h. never h (clear-marked 16 i);
+        holds = λ w k o x l h. rw (← same) h;
+        lacks = λ Q w g i d. clear-marked 16 i;
+      })
 
   -- THE MODULE FIRST: it is taken, the goal follows from it, and what is picked from it is the printed set
   module _ (inside : List ℕ) (e : inside ≡ marksOf (moduleOf (linesOf s) (counted s ws) n m a)) where
