@@ -1,17 +1,15 @@
 -- No second result satisfies the promise of a public call.
-use mathlib.Core.Path.{_≡_, sym, _∙_}
+use mathlib.Core.Path.{_≡_}
 use mathlib.Core.Bool.{Bool, not, _&&_}
 use mathlib.Core.List.{List}
-use Prim.Native.Nat.{ℕ, _+_, _-_, _*_, _^_, _<_}
+use Prim.Native.Nat.{ℕ, _-_, _^_, _<_}
 use native.Mathlib.Omega.{arith}
 use lib.Dec.{eqb}
 use lib.ListN.{length, getD}
-use lib.Seq.{ext-getD}
 use Rattle.bits.specs.Sets.{lowest}
-use Rattle.bits.proofs.BitLaws.{has-ext}
 use Rattle.bits.proofs.Promises.{no-second}
 use Rattle.marks.specs.Marks.{marked, marksFit, markCount, marksOf, cutOut}
-use Rattle.marks.proofs.MarkLaws.{at-word}
+use Rattle.marks.proofs.WordLaws.{marks-ext}
 
 pub is-marked-fixed : (ws : List ℕ) (i : ℕ) (r r′ : Bool) → r ≡ marked ws i → r′ ≡ marked ws i → r ≡ r′
 is-marked-fixed ws i r r′ = no-second
@@ -31,14 +29,7 @@ cut-marks-fixed ws i k r r′ = no-second
 pub marks-without-fixed : (ws vs r r′ : List ℕ) → r ≡ marksOf (λ i. marked ws i && not (marked vs i)) → r′ ≡ marksOf (λ i. marked ws i && not (marked vs i)) → r ≡ r′
 marks-without-fixed ws vs r r′ = no-second
 
--- words of 64 bits that are as many and mark the same places are the same
-marks-ext : (r r′ : List ℕ) → length r ≡ length r′ → ((j : ℕ) → j < length r → getD r j 0 < 2 ^ 64) → ((j : ℕ) → j < length r → getD r′ j 0 < 2 ^ 64) → ((k : ℕ) → marked r k ≡ marked r′ k) → r ≡ r′
-marks-ext r r′ e small small′ same =
-    ext-getD 0 r r′ e
-    (λ j l. has-ext 64 (getD r j 0) (getD r′ j 0) (small j l) (small′ j l)
-    (λ i h. sym (at-word r (j * 64 + i) j i (omega arith) (omega arith)) ∙ same (j * 64 + i) ∙ at-word r′ (j * 64 + i) j i (omega arith) (omega arith)))
-
 pub unmark-fixed : (ws : List ℕ) (i : ℕ) (r r′ : List ℕ) → ((j : ℕ) → j < length ws → getD r j 0 < 2 ^ 64) → ((j : ℕ) → j < length ws → getD r′ j 0 < 2 ^ 64)
     → (length r ≡ length ws) × ((k : ℕ) → marked r k ≡ (marked ws k && not (eqb i k))) → (length r′ ≡ length ws) × ((k : ℕ) → marked r′ k ≡ (marked ws k && not (eqb i k))) → r ≡ r′
 unmark-fixed ws i r r′ small small′ p q =
-    marks-ext r r′ (no-second (p .0) (q .0)) (λ j l. small j (omega (arith, p .0))) (λ j l. small′ j (omega (arith, p .0))) (λ k. no-second (p .1 k) (q .1 k))
+    marks-ext r r′ (no-second (p .0) (q .0)) (λ j l. small j (omega (arith, p .0))) (λ j l. small′ j (omega (arith, p .0))) (λ k l. no-second (p .1 k) (q .1 k))

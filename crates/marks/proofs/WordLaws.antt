@@ -38,19 +38,19 @@ module _ (P : ℕ → Bool) where
   pub marked-past : (i : ℕ) → 1024 ≤ i → marked (marksOf P) i ≡ false
   marked-past i h = unmarked-past (marksOf P) i (omega (arith, marks-length))
 
-  -- THERE IS ONE SUCH LIST of 16 words
-  marks-same : (ws : List ℕ) → length ws ≡ 16 → ((j : ℕ) → j < 16 → getD ws j 0 < 2 ^ 64) → ((i : ℕ) → i < 1024 → marked ws i ≡ P i) → ws ≡ marksOf P
-  marks-same ws len small same =
-      ext-getD 0 ws (marksOf P) (len ∙ sym marks-length) (λ j l. word j (omega arith) ∙ sym (marks-word j (omega arith)))
-    where
-      word : (j : ℕ) → j < 16 → getD ws j 0 ≡ row 64 (λ i. P (j * 64 + i))
-      word j h =
-          has-ext 64 (getD ws j 0) (row 64 (λ i. P (j * 64 + i))) (small j h) (row-lt 64 (λ i. P (j * 64 + i)))
-          (λ i l. sym (at-word ws (j * 64 + i) j i (omega arith) (omega arith)) ∙ same (j * 64 + i) (omega arith) ∙ sym (row-has 64 (λ k. P (j * 64 + k)) i l))
+-- WORDS THAT ARE AS MANY AND MARK THE SAME PLACES are the same
+pub marks-ext : (r r′ : List ℕ) → length r ≡ length r′ → ((j : ℕ) → j < length r → getD r j 0 < 2 ^ 64) → ((j : ℕ) → j < length r → getD r′ j 0 < 2 ^ 64)
+    → ((k : ℕ) → k < length r * 64 → marked r k ≡ marked r′ k) → r ≡ r′
+marks-ext r r′ e small small′ same =
+    ext-getD 0 r r′ e
+    (λ j l. has-ext 64 (getD r j 0) (getD r′ j 0) (small j l) (small′ j l)
+    (λ i h. sym (at-word r (j * 64 + i) j i (omega arith) (omega arith)) ∙ same (j * 64 + i) (omega arith) ∙ at-word r′ (j * 64 + i) j i (omega arith) (omega arith)))
 
 -- sets of the same places have the same words
 pub marks-alike : (P Q : ℕ → Bool) → ((i : ℕ) → i < 1024 → P i ≡ Q i) → marksOf P ≡ marksOf Q
-marks-alike P Q h = marks-same Q (marksOf P) (marks-length P) (marks-small P) (λ i l. marked-of P i l ∙ h i l)
+marks-alike P Q h =
+    marks-ext (marksOf P) (marksOf Q) (marks-length P ∙ sym (marks-length Q)) (λ j l. marks-small P j (omega (arith, marks-length P))) (λ j l. marks-small Q j (omega (arith, marks-length P)))
+    (λ k l. let i : k < 1024 = omega (arith, marks-length P) in marked-of P k i ∙ h k i ∙ sym (marked-of Q k i))
 
 -- words that mark a set of places mark what they mark
 pub marks-again : (P : ℕ → Bool) (ws : List ℕ) → ws ≡ marksOf P → ws ≡ marksOf (marked ws)
