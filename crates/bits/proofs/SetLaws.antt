@@ -3,7 +3,7 @@ use mathlib.Core.Path.{_≡_, refl, sym, ap, _∙_}
 use mathlib.Core.Bool.{Bool, true, false, cond, _&&_, _||_}
 use Prim.Native.Nat.{ℕ, zero, suc, _+_, _-_, _≤_, _<_}
 use native.Mathlib.Decide.{ℕ-discrete, decLt}
-use native.Mathlib.Nat.{add-zero, add-suc}
+use native.Mathlib.Nat.{add-zero, add-suc, sub-zero}
 use native.Mathlib.Omega.{arith}
 use lib.Dec.{leb, ltb}
 use borrow.Author.Tests.{ltb-true, leb-true, lt-ltb, le-leb}
@@ -69,18 +69,27 @@ module _ (p : ℕ → Bool) where
       go (yes l) = never g (a .none q h l)
       go (no l) = omega arith
 
-  -- a search that has come past some numbers goes on as it began
-  pub lowest-on : (i k : ℕ) → i < k → p i ≡ false → lowest p i (k - i) ≡ lowest p (i + 1) (k - (i + 1))
-  unfolding lowest
-  lowest-on i k h e = let g : k - i ≡ suc (k - (i + 1)) = omega arith in rw (g, e)
-
-  pub lowest-here : (i k : ℕ) → i < k → p i ≡ true → lowest p i (k - i) ≡ i
-  unfolding lowest
-  lowest-here i k h e = let g : k - i ≡ suc (k - (i + 1)) = omega arith in rw (g, e)
-
   pub lowest-end : (i k : ℕ) → k ≤ i → lowest p i (k - i) ≡ i
   unfolding lowest
   lowest-end i k h = let g : k - i ≡ 0 = omega arith in rw g
+
+  -- A SEARCH BELOW k THAT HAS COME TO i: what is left of it gives r, the answer of the whole
+  abbrev pub Left : ℕ → ℕ → ℕ → Type 0
+  Left i k r = lowest p i (k - i) ≡ r
+
+  pub left-start : (k : ℕ) {r : ℕ} → lowest p 0 k ≡ r → Left 0 k r
+  left-start k e = rw sub-zero e
+
+  pub left-on : {i k r : ℕ} → i < k → p i ≡ false → Left i k r → Left (i + 1) k r
+  unfolding lowest
+  left-on {i} {k} h e l = let g : k - i ≡ suc (k - (i + 1)) = omega arith in rw (g, e) at l
+
+  pub left-here : {i k r : ℕ} → i < k → p i ≡ true → Left i k r → i ≡ r
+  unfolding lowest
+  left-here {i} {k} h e l = let g : k - i ≡ suc (k - (i + 1)) = omega arith in rw (g, e) at l
+
+  pub left-end : {i k r : ℕ} → k ≤ i → Left i k r → i ≡ r
+  left-end {i} {k} h l = sym (lowest-end i k h) ∙ l
 
   -- nothing below the end is in p exactly when the search comes to the end
   pub lowest-none : (i c : ℕ) → lowest p i c ≡ i + c → (j : ℕ) → i ≤ j → j < i + c → p j ≡ false
@@ -93,6 +102,20 @@ module _ (p : ℕ → Bool) where
     none = f;
     found = λ h. absurd (omega arith);
   }))
+
+  -- WHAT A SEARCH FROM 0 SHOWS: that its answer is the first of p, or that there is none
+  pub record First (c i : ℕ) : Type 0 where
+    pub there : i < c
+    pub here : p i ≡ true
+    pub before : (j : ℕ) → j < i → p j ≡ false
+
+  pub first-is : {c r : ℕ} → r ≡ lowest p 0 c → r < c → First c r
+  first-is {c} {r} e h =
+      let f : Lowest p 0 c r = rw e (lowest-is 0 c) in
+      record { there = h; here = f .found (omega arith); before = λ j l. f .none j (omega arith) l }
+
+  pub first-none : {c r : ℕ} → r ≡ lowest p 0 c → c ≤ r → (j : ℕ) → j < c → p j ≡ false
+  first-none {c} {r} e h j l = lowest-is 0 c .none j (omega arith) (omega arith)
 
   -- the tests
   pub every-true : (c : ℕ) → every c p ≡ true → (i : ℕ) → i < c → p i ≡ true

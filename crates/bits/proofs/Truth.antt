@@ -1,6 +1,6 @@
 -- Laws of yes and no.
 use mathlib.Core.Path.{_≡_, refl, sym, ap}
-use mathlib.Core.Bool.{Bool, true, false, not, _&&_, _||_, true≢false}
+use mathlib.Core.Bool.{Bool, true, false, cond, not, _&&_, _||_, true≢false}
 use Prim.Native.Nat.{ℕ, _<_}
 use native.Mathlib.Decide.{decLt}
 use native.Mathlib.Omega.{arith}
@@ -42,6 +42,19 @@ is-no {a = false} h = refl
 -- what is not follows the other way
 pub turn : (t u : Bool) → (t ≡ true → u ≡ true) → not u ≡ true → not t ≡ true
 turn t u f h = ap not (is-no (λ e. never (f e) (not-true u h)))
+
+-- no two numbers that differ are one: for what `cc` finds of answers that cannot be
+pub clash : {C : Type 0} → _≡_ {A = ℕ} 0 1 → C
+clash e = absurd (omega arith)
+
+-- WHICH OF TWO ANSWERS a test gave: what is not the second is the first, and the test was yes; and the other way round
+pub cond-first : {A : Type 0} (t : Bool) {x y z : A} → cond t x y ≡ z → (y ≡ z → ⊥) → (t ≡ true) × (x ≡ z)
+cond-first true e n = (refl, e)
+cond-first false e n = absurd (n e)
+
+pub cond-second : {A : Type 0} (t : Bool) {x y z : A} → cond t x y ≡ z → (x ≡ z → ⊥) → (t ≡ false) × (y ≡ z)
+cond-second true e n = absurd (n e)
+cond-second false e n = (refl, e)
 
 -- two answers that are yes together are one
 pub alike : (a b : Bool) → (a ≡ true → b ≡ true) → (b ≡ true → a ≡ true) → a ≡ b

@@ -11,8 +11,8 @@ use borrow.Author.Tests.{le-ltb, ltb-true, ltb-false, leb-true, le-leb, not-true
 use Rattle.bits.specs.Bit.{has}
 use Rattle.bits.specs.Sets.{some}
 use Rattle.bits.proofs.Promises.{no-second}
-use Rattle.bits.proofs.Truth.{both-true, true-both, never, is-no}
-use Rattle.bits.proofs.SetLaws.{Lowest, lowest-is, lowest-none, none-lowest, some-true, true-some}
+use Rattle.bits.proofs.Truth.{both-true, true-both, never, is-no, clash, cond-first, cond-second}
+use Rattle.bits.proofs.SetLaws.{lowest-is, lowest-none, none-lowest, First, first-is, first-none, some-true, true-some}
 use Rattle.pack.specs.declared.check.Refusal.{Refusal}
 use Rattle.pack.specs.declared.check.Checked.{Checked}
 use Rattle.pack.specs.declared.check.Checked.the-variants as checked
@@ -24,7 +24,7 @@ use Rattle.pack.specs.Question.{counted, checkQuestion}
 use Rattle.pack.proofs.WorldLaws.{obeys-line, line-obeys}
 use Rattle.no.specs.declared.check.NoAnswer.{NoAnswer}
 use Rattle.no.specs.declared.check.NoAnswer.the-variants as no
-use Rattle.no.specs.NoSheet.{rowAt, rowsOf, thingsIn, noLengthFits, forbidden, worldOf, lowestForbidden, lowestBroken, refutes, checkWorld, checkRows, checkNo}
+use Rattle.no.specs.NoSheet.{rowAt, rowsOf, thingsIn, noLengthFits, forbidden, worldOf, lowestForbidden, lowestBroken, refutes, checkWorld, checkRows, noAfter, checkNo}
 use Rattle.no.specs.Inner.{ThingsFit, RoleFits, LineFits, LinesFit}
 
 -- the rows: k, and k for each role
@@ -101,26 +101,23 @@ unfolding refutes
 refuted w a b x l p q = true-some (λ x. w .isIn x a && not (w .isIn x b)) (w .things) x l (rw (p, q))
 
 module _ (w : World) (ls : List Line) (S : ℕ → Bool) where
-  first : Lowest (λ i. S i && not (obeys w (lineAt ls i))) 0 (length ls) (lowestBroken w ls S)
-  unfolding lowestBroken
-  first = lowest-is (λ i. S i && not (obeys w (lineAt ls i))) 0 (length ls)
-
-  -- a place of S whose line is not broken is obeyed
-  kept : (i : ℕ) → S i ≡ true → (S i && not (obeys w (lineAt ls i))) ≡ false → obeys w (lineAt ls i) ≡ true
-  kept i s e = not-false (obeys w (lineAt ls i)) (sym (ap (λ (t : Bool). t && not (obeys w (lineAt ls i))) s) ∙ e)
+  -- place i counts, and its line is broken
+  abbrev pub brokenAt : ℕ → Bool
+  brokenAt i = S i && not (obeys w (lineAt ls i))
 
   none-broken : length ls ≤ lowestBroken w ls S → Obeys w ls S
-  none-broken h i l s = obeys-line w (lineAt ls i) (kept i s (first .none i (omega arith) (omega arith)))
+  unfolding lowestBroken
+  none-broken h i l s = obeys-line w (lineAt ls i) (not-false (obeys w (lineAt ls i)) (rw s at (first-none brokenAt refl h i l)))
 
   obeyed : Obeys w ls S → lowestBroken w ls S ≡ length ls
   unfolding lowestBroken
-  obeyed o = none-lowest (λ i. S i && not (obeys w (lineAt ls i))) 0 (length ls) (λ i g l. at i (omega (arith, zero-add (length ls))) (S i) refl) ∙ zero-add (length ls)
+  obeyed o = none-lowest brokenAt 0 (length ls) (λ i g l. at i (omega (arith, zero-add (length ls))) (S i) refl) ∙ zero-add (length ls)
     where
       at : (i : ℕ) → i < length ls → (t : Bool) → S i ≡ t → (t && not (obeys w (lineAt ls i))) ≡ false
       at i l true s = ap not (line-obeys w (lineAt ls i) (o i l s))
       at i l false s = refl
 
--- the answers to a question that is taken, one below the other: the tests that the sheet passed, and the one at which it stopped
+-- the answers to a question that is taken, one below the other
 module _ (n m : ℕ) (s ws : List ℕ) (a b : ℕ) (sheet : List ℕ) where
   abbrev k : ℕ
   k = thingsIn m sheet
@@ -134,55 +131,26 @@ module _ (n m : ℕ) (s ws : List ℕ) (a b : ℕ) (sheet : List ℕ) where
   abbrev place : ℕ
   place = lowestBroken (worldOf (thingsIn m sheet) sheet) (linesOf s) (counted s ws)
 
-  data Stopped : NoAnswer → Type 0 where
-    at-length : noLengthFits m sheet ≡ false → Stopped no.Length
-    at-row : row < rowsOf m k → Stopped (no.Row row)
-    at-place : rowsOf m k ≤ row → place < length (linesOf s) → Stopped (no.Broken place)
-    at-goal : length (linesOf s) ≤ place → refutes w a b ≡ false → Stopped no.NotShown
-    at-end : noLengthFits m sheet ≡ true → rowsOf m k ≤ row → length (linesOf s) ≤ place → refutes w a b ≡ true → Stopped no.Accepted
-
-  stopped : {c : ℕ} → checkQuestion n m s ws a b ≡ checked.Count c → Stopped (checkNo n m s ws a b sheet)
-  unfolding checkNo checkRows checkWorld
-  stopped e = rw e (fits (noLengthFits m sheet) refl)
-    where
-      goal : noLengthFits m sheet ≡ true → rowsOf m k ≤ row → length (linesOf s) ≤ place → (t : Bool) → refutes w a b ≡ t → Stopped (cond t no.Accepted no.NotShown)
-      goal f r p true g = at-end f r p g
-      goal f r p false g = at-goal p g
-
-      world : noLengthFits m sheet ≡ true → rowsOf m k ≤ row → (t : Bool) → ltb place (length (linesOf s)) ≡ t → Stopped (cond t (no.Broken place) (cond (refutes w a b) no.Accepted no.NotShown))
-      world f r true g = at-place r (ltb-true place (length (linesOf s)) g)
-      world f r false g = goal f r (ltb-false place (length (linesOf s)) g) (refutes w a b) refl
-
-      rows : noLengthFits m sheet ≡ true → (t : Bool) → ltb row (rowsOf m k) ≡ t → Stopped (cond t (no.Row row) (cond (ltb place (length (linesOf s))) (no.Broken place) (cond (refutes w a b) no.Accepted no.NotShown)))
-      rows f true g = at-row (ltb-true row (rowsOf m k) g)
-      rows f false g = world f (ltb-false row (rowsOf m k) g) (ltb place (length (linesOf s))) refl
-
-      fits : (t : Bool) → noLengthFits m sheet ≡ t → Stopped (cond t (cond (ltb row (rowsOf m k)) (no.Row row) (cond (ltb place (length (linesOf s))) (no.Broken place) (cond (refutes w a b) no.Accepted no.NotShown))) no.Length)
-      fits true f = rows f (ltb row (rowsOf m k)) refl
-      fits false f = at-length f
-
   -- an answer other than a refusal of the question is one of those
-  taken : {r : NoAnswer} → checkNo n m s ws a b sheet ≡ r → (((why : Refusal) → r ≡ no.Refused why → ⊥)) → Stopped r
+  taken : {r : NoAnswer} → checkNo n m s ws a b sheet ≡ r → ((why : Refusal) → no.Refused why ≡ r → ⊥) → cond (noLengthFits m sheet) (checkRows n m k (linesOf s) (counted s ws) a b sheet) no.Length ≡ r
   unfolding checkNo
-  taken {r} e other = go (checkQuestion n m s ws a b) refl
+  taken {r} e question = after (checkQuestion n m s ws a b) e
     where
-      go : (q : Checked) → checkQuestion n m s ws a b ≡ q → Stopped r
-      go (checked.Refused why) f = absurd (other why (sym e ∙ rw f))
-      go (checked.Count c) f = rw e at (stopped f)
+      after : (q : Checked) → noAfter q n m s ws a b sheet ≡ r → cond (noLengthFits m sheet) (checkRows n m k (linesOf s) (counted s ws) a b sheet) no.Length ≡ r
+      after (checked.Refused why) h = absurd (question why h)
+      after (checked.Count c) h = h
 
   -- AN ACCEPTED NO SHEET IS A WORLD that obeys every line that counts and has a thing of a that is not in b: the goal does not follow
   pub no-right : checkNo n m s ws a b sheet ≡ no.Accepted → Follows (linesOf s) (counted s ws) a b → ⊥
-  no-right e f = go (taken e (λ why q. let z : _≡_ {A = ℕ} 0 1 = cc in omega arith)) refl
-    where
-      go : {r : NoAnswer} → Stopped r → r ≡ no.Accepted → ⊥
-      go (at-length _) q = let z : _≡_ {A = ℕ} 0 1 = cc in omega arith
-      go (at-row _) q = let z : _≡_ {A = ℕ} 0 1 = cc in omega arith
-      go (at-place _ _) q = let z : _≡_ {A = ℕ} 0 1 = cc in omega arith
-      go (at-goal _ _) q = let z : _≡_ {A = ℕ} 0 1 = cc in omega arith
-      go (at-end fit _ p g) q =
-          let t = refuting w a b g in
-          let some = leb-true 1 k (both-true (leb 1 k) (leb k 64) (both-true (eqb (length sheet % (8 * (1 + m))) 0) (leb 1 k && leb k 64) fit .1) .0) in
-          never (f w some (none-broken w (linesOf s) (counted s ws) p) (t .0) (t .1) (t .2)) (t .3)
+  unfolding checkRows checkWorld
+  no-right e f =
+      let l = cond-first (noLengthFits m sheet) (taken e (λ why q. clash cc)) (λ q. clash cc) in
+      let r = cond-second (ltb row (rowsOf m k)) (l .1) (λ q. clash cc) in
+      let p = cond-second (ltb place (length (linesOf s))) (r .1) (λ q. clash cc) in
+      let g = cond-first (refutes w a b) (p .1) (λ q. clash cc) in
+      let t = refuting w a b (g .0) in
+      let some = leb-true 1 k (both-true (leb 1 k) (leb k 64) (both-true (eqb (length sheet % (8 * (1 + m))) 0) (leb 1 k && leb k 64) (l .0) .1) .0) in
+      never (f w some (none-broken w (linesOf s) (counted s ws) (ltb-false place (length (linesOf s)) (p .0))) (t .0) (t .1) (t .2)) (t .3)
 
   -- A SHEET THAT KEEPS THE RULES IS ACCEPTED
   pub no-accepts : {c : ℕ} → checkQuestion n m s ws a b ≡ checked.Count c → noLengthFits m sheet ≡ true → ((i : ℕ) → i < rowsOf m k → forbidden n k sheet i ≡ false) → Obeys w (linesOf s) (counted s ws) → (x : ℕ) → x < k → Is w x a → w .isIn x b ≡ false → checkNo n m s ws a b sheet ≡ no.Accepted
@@ -200,40 +168,29 @@ module _ (n m : ℕ) (s ws : List ℕ) (a b : ℕ) (sheet : List ℕ) where
       )
 
   -- ROW GIVES THE LOWEST ROW with a forbidden bit
-  pub row-lowest : {i : ℕ} → checkNo n m s ws a b sheet ≡ no.Row i → (i < rowsOf m k) × (forbidden n k sheet i ≡ true) × ((j : ℕ) → j < i → forbidden n k sheet j ≡ false)
-  unfolding lowestForbidden
-  row-lowest {i} e = go (taken e (λ why q. let z : _≡_ {A = ℕ} 0 1 = cc in omega arith)) refl
-    where
-      found : Lowest (forbidden n k sheet) 0 (rowsOf m k) row
-      found = lowest-is (forbidden n k sheet) 0 (rowsOf m k)
-
-      go : {r : NoAnswer} → Stopped r → r ≡ no.Row i → (i < rowsOf m k) × (forbidden n k sheet i ≡ true) × ((j : ℕ) → j < i → forbidden n k sheet j ≡ false)
-      go (at-length _) q = let z : _≡_ {A = ℕ} 0 1 = cc in absurd (omega arith)
-      go (at-row h) q =
-          let same : row ≡ i = cc in
-          (omega arith, rw (← same) (found .found (omega (arith, zero-add (rowsOf m k)))), λ j l. found .none j (omega arith) (omega arith))
-      go (at-place _ _) q = let z : _≡_ {A = ℕ} 0 1 = cc in absurd (omega arith)
-      go (at-goal _ _) q = let z : _≡_ {A = ℕ} 0 1 = cc in absurd (omega arith)
-      go (at-end _ _ _ _) q = let z : _≡_ {A = ℕ} 0 1 = cc in absurd (omega arith)
+  pub row-lowest : {i : ℕ} → checkNo n m s ws a b sheet ≡ no.Row i → First (forbidden n k sheet) (rowsOf m k) i
+  unfolding checkRows checkWorld lowestForbidden
+  row-lowest {i} e =
+      let l = cond-first (noLengthFits m sheet) (taken e (λ why q. clash cc)) (λ q. clash cc) in
+      let r = cond-first (ltb row (rowsOf m k)) (l .1)
+      (λ q.
+      let p = cond-second (ltb place (length (linesOf s))) q (λ q. clash cc) in
+      let g = cond-first (refutes w a b) (p .1) (λ q. clash cc) .1 in
+      clash cc) in
+      let stops = r .1 in
+      let same : row ≡ i = cc in
+      rw (← same) (first-is (forbidden n k sheet) refl (ltb-true row (rowsOf m k) (r .0)))
 
   -- BROKEN GIVES THE LOWEST PLACE that counts and that the world does not obey
-  pub broken-lowest : {i : ℕ} → checkNo n m s ws a b sheet ≡ no.Broken i → (i < length (linesOf s)) × (counted s ws i ≡ true) × (obeys w (lineAt (linesOf s) i) ≡ false) × ((j : ℕ) → j < i → counted s ws j ≡ true → obeys w (lineAt (linesOf s) j) ≡ true)
-  broken-lowest {i} e = go (taken e (λ why q. let z : _≡_ {A = ℕ} 0 1 = cc in omega arith)) refl
-    where
-      go : {r : NoAnswer} → Stopped r → r ≡ no.Broken i → (i < length (linesOf s)) × (counted s ws i ≡ true) × (obeys w (lineAt (linesOf s) i) ≡ false) × ((j : ℕ) → j < i → counted s ws j ≡ true → obeys w (lineAt (linesOf s) j) ≡ true)
-      go (at-length _) q = let z : _≡_ {A = ℕ} 0 1 = cc in absurd (omega arith)
-      go (at-row _) q = let z : _≡_ {A = ℕ} 0 1 = cc in absurd (omega arith)
-      go (at-place r h) q =
-          let same : place ≡ i = cc in
-          let found = first w (linesOf s) (counted s ws) in
-          let here = both-true (counted s ws place) (not (obeys w (lineAt (linesOf s) place))) (found .found (omega (arith, zero-add (length (linesOf s))))) in (
-            omega arith,
-            rw (← same) (here .0),
-            rw (← same) (not-true (obeys w (lineAt (linesOf s) place)) (here .1)),
-            λ j l c. kept w (linesOf s) (counted s ws) j c (found .none j (omega arith) (omega arith)),
-          )
-      go (at-goal _ _) q = let z : _≡_ {A = ℕ} 0 1 = cc in absurd (omega arith)
-      go (at-end _ _ _ _) q = let z : _≡_ {A = ℕ} 0 1 = cc in absurd (omega arith)
+  pub broken-lowest : {i : ℕ} → checkNo n m s ws a b sheet ≡ no.Broken i → First (brokenAt w (linesOf s) (counted s ws)) (length (linesOf s)) i
+  unfolding checkRows checkWorld lowestBroken
+  broken-lowest {i} e =
+      let l = cond-first (noLengthFits m sheet) (taken e (λ why q. clash cc)) (λ q. clash cc) in
+      let r = cond-second (ltb row (rowsOf m k)) (l .1) (λ q. clash cc) in
+      let p = cond-first (ltb place (length (linesOf s))) (r .1) (λ q. let g = cond-first (refutes w a b) q (λ q. clash cc) .1 in clash cc) in
+      let stops = p .1 in
+      let same : place ≡ i = cc in
+      rw (← same) (first-is (brokenAt w (linesOf s) (counted s ws)) refl (ltb-true place (length (linesOf s)) (p .0)))
 
   -- no second result satisfies the promise
   pub no-fixed : (r r′ : NoAnswer) → r ≡ checkNo n m s ws a b sheet → r′ ≡ checkNo n m s ws a b sheet → r ≡ r′

@@ -1,16 +1,14 @@
 -- Laws of the question check: a question is taken exactly when it has a good pack, marks that fit and a goal below n.
 use mathlib.Core.Path.{_≡_, refl}
-use mathlib.Core.Bool.{Bool, true, false, cond}
+use mathlib.Core.Bool.{true}
 use mathlib.Core.List.{List}
 use Prim.Native.Nat.{ℕ, _<_}
-use native.Mathlib.Omega.{arith}
 use lib.Dec.{ltb}
 use lib.ListN.{length}
 use borrow.Author.Tests.{ltb-true, lt-ltb}
-use Rattle.bits.proofs.Truth.{both-true, never, is-no}
+use Rattle.bits.proofs.Truth.{both-true, never, is-no, clash, cond-first}
 use Rattle.marks.specs.Marks.{marksFit, marked}
 use Rattle.marks.proofs.MarkLaws.{Fit, fit, fits}
-use Rattle.pack.specs.declared.check.Refusal.the-variants.{Marks, Goal}
 use Rattle.pack.specs.declared.check.Checked.{Checked}
 use Rattle.pack.specs.declared.check.Checked.the-variants.{Refused, Count}
 use Rattle.pack.specs.Pack.{checkPack}
@@ -30,26 +28,21 @@ pub asked : (n m : ℕ) (s ws : List ℕ) (a b : ℕ) {k : ℕ} → checkQuestio
 unfolding checkQuestion
 asked n m s ws a b {k} = after (checkPack n m s) refl
   where
-    goal : (j : ℕ) → checkPack n m s ≡ Count j → marksFit ws j ≡ true → (t : Bool) → goalFits n a b ≡ t → cond t (Count j) (Refused Goal) ≡ Count k → Asked n m s ws a b k
-    goal j e f true g h =
+    after : (r : Checked) → checkPack n m s ≡ r → afterPack r n (marksFit ws) a b ≡ Count k → Asked n m s ws a b k
+    after (Refused why) e h = clash cc
+    after (Count j) e h =
+        let f = cond-first (marksFit ws j) h (λ q. clash cc) in
+        let g = cond-first (goalFits n a b) (f .1) (λ q. clash cc) in
+        let counts = g .1 in
         let same : j ≡ k = cc in
-        let p = both-true (ltb a n) (ltb b n) g in
+        let p = both-true (ltb a n) (ltb b n) (g .0) in
         rw (← same)
         (record {
           pack = accepted n m s e;
-          marks = fit ws f;
+          marks = fit ws (f .0);
           goalA = ltb-true a n (p .0);
           goalB = ltb-true b n (p .1);
         })
-    goal j e f false g h = let z : _≡_ {A = ℕ} 0 1 = cc in absurd (omega arith)
-
-    counts : (j : ℕ) → checkPack n m s ≡ Count j → (t : Bool) → marksFit ws j ≡ t → cond t (cond (goalFits n a b) (Count j) (Refused Goal)) (Refused Marks) ≡ Count k → Asked n m s ws a b k
-    counts j e true f h = goal j e f (goalFits n a b) refl h
-    counts j e false f h = let z : _≡_ {A = ℕ} 0 1 = cc in absurd (omega arith)
-
-    after : (r : Checked) → checkPack n m s ≡ r → afterPack r n (marksFit ws) a b ≡ Count k → Asked n m s ws a b k
-    after (Refused why) e h = let z : _≡_ {A = ℕ} 0 1 = cc in absurd (omega arith)
-    after (Count j) e h = counts j e (marksFit ws j) refl h
 
 -- so its lines are valid
 pub asked-valid : (n m : ℕ) (s ws : List ℕ) (a b : ℕ) {k : ℕ} → checkQuestion n m s ws a b ≡ Count k → Valid n m (linesOf s)

@@ -2,19 +2,19 @@
 use mathlib.Core.Path.{_≡_, refl, sym, ap, ap₂, _∙_}
 use mathlib.Core.Bool.{Bool, true, false, cond, not, _&&_, _||_, or-false, or-assoc}
 use mathlib.Core.List.{List, [], _∷_, _++_}
-use Prim.Native.Nat.{ℕ, zero, suc, _+_, _-_, _/_, _≤_, _<_}
-use native.Mathlib.Nat.{zero-add, sub-zero}
+use Prim.Native.Nat.{ℕ, zero, suc, _+_, _/_, _≤_, _<_}
+use native.Mathlib.Nat.{zero-add}
 use native.Mathlib.Numerals.{add-one}
 use native.Mathlib.Omega.{arith}
 use lib.Dec.{ltb}
 use lib.ListN.{length, take}
 use lib.Seq.{take-suc, take-all}
-use borrow.Author.Tests.{ltb-true, ltb-false, lt-ltb, le-ltb, not-true, not-false}
-use Rattle.bits.specs.Sets.{lowest}
-use Rattle.bits.proofs.Truth.{both-true, or-elim, never}
-use Rattle.bits.proofs.SetLaws.{Lowest, lowest-is, lowest-on, lowest-here, lowest-end, none-lowest}
+use borrow.Author.Tests.{ltb-true, ltb-false, lt-ltb, le-ltb, not-false}
+use Rattle.bits.proofs.Truth.{both-true, or-elim, clash, cond-first, cond-second}
+use Rattle.bits.proofs.SetLaws.{none-lowest, Left, left-start, left-on, left-here, left-end, First, first-is, first-none}
 use Rattle.bits.proofs.Promises.{no-second}
 use Rattle.bits.proofs.ListLaws.{listed-length, listed-at}
+use Rattle.pack.specs.declared.check.Refusal.{Refusal}
 use Rattle.pack.specs.declared.check.Checked.{Checked}
 use Rattle.pack.specs.declared.check.Checked.the-variants as checked
 use Rattle.pack.specs.declared.line.Line.{Line}
@@ -75,38 +75,34 @@ module _ (ls : List Line) (n : ℕ) where
   known-last sheet i h f = ap (λ (u : List Step). known ls n u f) (take-all i (stepsOf sheet) (omega (arith, steps-length sheet)))
 
 module _ (ls : List Line) (S : ℕ → Bool) (n : ℕ) (sheet : List ℕ) where
-  abbrev failsAt : ℕ → Bool
+  abbrev pub failsAt : ℕ → Bool
   failsAt j = not (goodAt ls S n sheet j)
 
-  -- the search from step i on, as the code goes
-  abbrev badFrom : ℕ → ℕ
-  badFrom i = lowest failsAt i (length sheet / 8 - i)
-
-  -- THE RUN OF THE CODE, before step i: every step passed is good, and the rows hold what is known
-  pub record Passed (concepts links : List ℕ) (i : ℕ) : Type 0 where
+  -- THE RUN OF THE CODE, before step i: every step before it is good, and the rows hold what is known
+  pub record GoodBefore (concepts links : List ℕ) (i : ℕ) : Type 0 where
     pub whole : Whole concepts links
     pub holds : (f : Fact) → held concepts links f ≡ known ls n (take i (stepsOf sheet)) f
-    pub left : badFrom i ≡ lowestBad ls S n sheet
+    pub left : Left failsAt i (length sheet / 8) (lowestBad ls S n sheet)
 
-  pub passed-none : n ≤ 64 → Passed (startTables n .concepts) (startTables n .links) 0
+  pub good-none : n ≤ 64 → GoodBefore (startTables n .concepts) (startTables n .links) 0
   unfolding lowestBad
-  passed-none h = record {
+  good-none h = record {
     whole = start-whole n;
     holds = λ f. start-held n h f ∙ sym (known-first ls n sheet f);
-    left = rw sub-zero;
+    left = left-start failsAt (length sheet / 8) refl;
   }
 
-  module _ {concepts links : List ℕ} {i : ℕ} (p : Passed concepts links i) (h : i < length sheet / 8) {r : Bool}
+  module _ {concepts links : List ℕ} {i : ℕ} (p : GoodBefore concepts links i) (h : i < length sheet / 8) {r : Bool}
       (e : r ≡ (zerosIn (part sheet i) && goodOver ls S n (held concepts links) (stepIn (part sheet i)))) where
     judged : r ≡ goodAt ls S n sheet i
     unfolding goodAt
     judged = e ∙ ap (λ (u : Bool). zerosIn (part sheet i) && u) (good-same ls S n (held concepts links) (known ls n (take i (stepsOf sheet))) (stepIn (part sheet i)) (p .holds))
 
-    pub passed-more : {m : ℕ} → n ≤ 64 → m ≤ 8 → Valid n m ls → r ≡ true → {concepts′ links′ : List ℕ}
+    pub good-more : {m : ℕ} → n ≤ 64 → m ≤ 8 → Valid n m ls → r ≡ true → {concepts′ links′ : List ℕ}
         → concepts′ ≡ cond r (addedConcepts (conclusionOf ls (stepIn (part sheet i))) concepts) concepts
         → links′ ≡ cond r (addedLinks (conclusionOf ls (stepIn (part sheet i))) links) links
-        → Passed concepts′ links′ (i + 1)
-    passed-more {m} few roles v t {concepts′} {links′} c l =
+        → GoodBefore concepts′ links′ (i + 1)
+    good-more {m} few roles v t {concepts′} {links′} c l =
         let s = stepIn (part sheet i) in
         let f = conclusionOf ls s in
         let c′ : concepts′ ≡ addedConcepts f concepts = rw t at c in
@@ -120,22 +116,22 @@ module _ (ls : List Line) (S : ℕ → Bool) (n : ℕ) (sheet : List ℕ) where
               held-added concepts links (p .whole) f d
               ∙ ap₂ (λ (u w : Bool). u || (w && sameFact f d)) (p .holds d) has
               ∙ sym (known-more ls n sheet i h d);
-          left = sym (lowest-on failsAt i (length sheet / 8) h (ap not (sym judged ∙ t))) ∙ p .left;
+          left = left-on failsAt h (ap not (sym judged ∙ t)) (p .left);
         })
 
     pub step-bad : (a b : ℕ) → r ≡ false → yes.Step i ≡ checkSteps ls S n a b sheet
     unfolding checkSteps
     step-bad a b f =
-        let bad : lowestBad ls S n sheet ≡ i = sym (p .left) ∙ lowest-here failsAt i (length sheet / 8) h (ap not (sym judged ∙ f)) in
-        rw (bad, lt-ltb i (length sheet / 8) h)
+        let bad : i ≡ lowestBad ls S n sheet = left-here failsAt h (ap not (sym judged ∙ f)) (p .left) in
+        rw (← bad, lt-ltb i (length sheet / 8) h)
 
-  module _ {concepts links : List ℕ} {i : ℕ} (p : Passed concepts links i) (h : length sheet / 8 ≤ i) (a b : ℕ) {r : Bool} (e : r ≡ heldIn concepts a b) where
+  module _ {concepts links : List ℕ} {i : ℕ} (p : GoodBefore concepts links i) (h : length sheet / 8 ≤ i) (a b : ℕ) {r : Bool} (e : r ≡ heldIn concepts a b) where
     all-good : cond r yes.Accepted yes.NotShown ≡ checkSteps ls S n a b sheet
     unfolding checkSteps held
     all-good =
-        let bad : lowestBad ls S n sheet ≡ i = sym (p .left) ∙ lowest-end failsAt i (length sheet / 8) h in
+        let bad : i ≡ lowestBad ls S n sheet = left-end failsAt h (p .left) in
         let goal : known ls n (stepsOf sheet) (In a b) ≡ r = sym (known-last ls n sheet i h (In a b)) ∙ sym (p .holds (In a b)) ∙ sym e in
-        rw (bad, le-ltb i (length sheet / 8) h, goal)
+        rw (← bad, le-ltb i (length sheet / 8) h, goal)
 
     pub goal-shown : r ≡ true → yes.Accepted ≡ checkSteps ls S n a b sheet
     goal-shown f = rw f at all-good
@@ -148,36 +144,12 @@ module _ (ls : List Line) (S : ℕ → Bool) (n : ℕ) (sheet : List ℕ) where
     pub all : (i : ℕ) → i < length sheet / 8 → goodAt ls S n sheet i ≡ true
     pub goal : known ls n (stepsOf sheet) (In a b) ≡ true
 
-  pub record BadAt (i : ℕ) : Type 0 where
-    pub there : i < length sheet / 8
-    pub bad : goodAt ls S n sheet i ≡ false
-    pub before : (j : ℕ) → j < i → goodAt ls S n sheet j ≡ true
-
-  found : Lowest failsAt 0 (length sheet / 8) (lowestBad ls S n sheet)
-  unfolding lowestBad
-  found = lowest-is failsAt 0 (length sheet / 8)
-
-  before-bad : (j : ℕ) → j < lowestBad ls S n sheet → goodAt ls S n sheet j ≡ true
-  before-bad j l = not-false (goodAt ls S n sheet j) (found .none j (omega arith) l)
-
-  answer : (C : YesAnswer → Type 0) (a b : ℕ) (t u : Bool) → ltb (lowestBad ls S n sheet) (length sheet / 8) ≡ t → known ls n (stepsOf sheet) (In a b) ≡ u
-      → (BadAt (lowestBad ls S n sheet) → C (yes.Step (lowestBad ls S n sheet))) → (AllGood a b → C yes.Accepted) → C yes.NotShown
-      → C (cond t (yes.Step (lowestBad ls S n sheet)) (cond u yes.Accepted yes.NotShown))
-  answer C a b true u e f h₁ h₂ h₃ =
-      let l = ltb-true (lowestBad ls S n sheet) (length sheet / 8) e in
-      h₁ (record { there = l; bad = not-true (goodAt ls S n sheet (lowestBad ls S n sheet)) (found .found (omega (arith, zero-add (length sheet / 8)))); before = before-bad })
-  answer C a b false true e f h₁ h₂ h₃ =
-      let l = ltb-false (lowestBad ls S n sheet) (length sheet / 8) e in
-      h₂ (record { all = λ i h. before-bad i (omega arith); goal = f })
-  answer C a b false false e f h₁ h₂ h₃ = h₃
-
   accepted-good : (a b : ℕ) → checkSteps ls S n a b sheet ≡ yes.Accepted → AllGood a b
-  unfolding checkSteps
-  accepted-good a b =
-      answer (λ r. r ≡ yes.Accepted → AllGood a b) a b (ltb (lowestBad ls S n sheet) (length sheet / 8)) (known ls n (stepsOf sheet) (In a b)) refl refl
-      (λ _ e. let z : _≡_ {A = ℕ} 0 1 = cc in absurd (omega arith))
-      (λ g _. g)
-      (λ e. let z : _≡_ {A = ℕ} 0 1 = cc in absurd (omega arith))
+  unfolding checkSteps lowestBad
+  accepted-good a b e =
+      let t = cond-second (ltb (lowestBad ls S n sheet) (length sheet / 8)) e (λ q. clash cc) in
+      let g = cond-first (known ls n (stepsOf sheet) (In a b)) (t .1) (λ q. clash cc) in
+      record { all = λ i h. not-false (goodAt ls S n sheet i) (first-none failsAt refl (ltb-false (lowestBad ls S n sheet) (length sheet / 8) (t .0)) i h); goal = g .0 }
 
   good-accepted : {a b : ℕ} → AllGood a b → checkSteps ls S n a b sheet ≡ yes.Accepted
   unfolding checkSteps lowestBad
@@ -185,13 +157,13 @@ module _ (ls : List Line) (S : ℕ → Bool) (n : ℕ) (sheet : List ℕ) where
       let none = none-lowest failsAt 0 (length sheet / 8) (λ j h l. ap not (g .all j (omega (arith, zero-add (length sheet / 8))))) in
       rw (le-ltb (lowestBad ls S n sheet) (length sheet / 8) (omega arith), g .goal)
 
-  step-bad-at : (a b i : ℕ) → checkSteps ls S n a b sheet ≡ yes.Step i → BadAt i
-  unfolding checkSteps
-  step-bad-at a b i =
-      answer (λ r. r ≡ yes.Step i → BadAt i) a b (ltb (lowestBad ls S n sheet) (length sheet / 8)) (known ls n (stepsOf sheet) (In a b)) refl refl
-      (λ g e. let same : lowestBad ls S n sheet ≡ i = cc in rw (← same) g)
-      (λ _ e. let z : _≡_ {A = ℕ} 0 1 = cc in absurd (omega arith))
-      (λ e. let z : _≡_ {A = ℕ} 0 1 = cc in absurd (omega arith))
+  step-bad-at : (a b i : ℕ) → checkSteps ls S n a b sheet ≡ yes.Step i → First failsAt (length sheet / 8) i
+  unfolding checkSteps lowestBad
+  step-bad-at a b i e =
+      let t = cond-first (ltb (lowestBad ls S n sheet) (length sheet / 8)) e (λ q. let p = cond-first (known ls n (stepsOf sheet) (In a b)) q (λ q. clash cc) .1 in clash cc) in
+      let stops = t .1 in
+      let same : lowestBad ls S n sheet ≡ i = cc in
+      rw (← same) (first-is failsAt refl (ltb-true (lowestBad ls S n sheet) (length sheet / 8) (t .0)))
 
   -- WHAT IS KNOWN AFTER GOOD STEPS is derived from the free facts
   known-derived : (i : ℕ) → i ≤ length sheet / 8 → ((j : ℕ) → j < i → goodAt ls S n sheet j ≡ true) → (f : Fact) → known ls n (take i (stepsOf sheet)) f ≡ true → Derived ls S n (free n) f
@@ -211,32 +183,20 @@ module _ (ls : List Line) (S : ℕ → Bool) (n : ℕ) (sheet : List ℕ) where
       let k = length sheet / 8 in
       derived-follows ls S n a b (known-derived k (omega arith) (g .all) (In a b) (known-last ls n sheet k (omega arith) (In a b) ∙ g .goal))
 
--- an answer that only the steps give
-ofSteps : YesAnswer → Bool
-ofSteps (yes.Refused why) = false
-ofSteps yes.Length = false
-ofSteps (yes.Step i) = true
-ofSteps yes.NotShown = true
-ofSteps yes.Accepted = true
-
 -- THE YES CHECK
 module _ (n m : ℕ) (s ws : List ℕ) (a b : ℕ) (sheet : List ℕ) where
-  by-steps : (x : YesAnswer) → ofSteps x ≡ true → checkYes n m s ws a b sheet ≡ x → checkSteps (linesOf s) (counted s ws) n a b sheet ≡ x
-  unfolding checkYes ofSteps
-  by-steps x t = after (checkQuestion n m s ws a b)
+  -- an answer that only the steps give
+  by-steps : {x : YesAnswer} → checkYes n m s ws a b sheet ≡ x → ((why : Refusal) → yes.Refused why ≡ x → ⊥) → (yes.Length ≡ x → ⊥) → checkSteps (linesOf s) (counted s ws) n a b sheet ≡ x
+  unfolding checkYes
+  by-steps {x} e question fits = after (checkQuestion n m s ws a b) e
     where
-      fits : (u : Bool) → cond u (checkSteps (linesOf s) (counted s ws) n a b sheet) yes.Length ≡ x → checkSteps (linesOf s) (counted s ws) n a b sheet ≡ x
-      fits true h = h
-      fits false h = never t (ap ofSteps (sym h))
-
       after : (r : Checked) → yesAfter r n s ws a b sheet ≡ x → checkSteps (linesOf s) (counted s ws) n a b sheet ≡ x
-      after (checked.Refused why) h = never t (ap ofSteps (sym h))
-      after (checked.Count k) h = fits (yesLengthFits sheet) h
+      after (checked.Refused why) h = absurd (question why h)
+      after (checked.Count k) h = cond-first (yesLengthFits sheet) h fits .1
 
   -- AN ACCEPTED SHEET IS RIGHT: the goal follows from the marked records
   pub yes-right : checkYes n m s ws a b sheet ≡ yes.Accepted → Follows (linesOf s) (counted s ws) a b
-  unfolding ofSteps
-  yes-right h = good-follows (linesOf s) (counted s ws) n sheet (accepted-good (linesOf s) (counted s ws) n sheet a b (by-steps yes.Accepted refl h))
+  yes-right h = good-follows (linesOf s) (counted s ws) n sheet (accepted-good (linesOf s) (counted s ws) n sheet a b (by-steps h (λ why q. clash cc) (λ q. clash cc)))
 
   -- EVERY SHEET OF GOOD STEPS THAT SHOWS THE GOAL IS ACCEPTED
   pub yes-accepts : {k : ℕ} → checkQuestion n m s ws a b ≡ checked.Count k → yesLengthFits sheet ≡ true
@@ -246,9 +206,8 @@ module _ (n m : ℕ) (s ws : List ℕ) (a b : ℕ) (sheet : List ℕ) where
   yes-accepts e l g k = rw (e, l) (good-accepted (linesOf s) (counted s ws) n sheet (record { all = g; goal = k }))
 
   -- STEP GIVES THE LOWEST STEP that is not good
-  pub step-lowest : {i : ℕ} → checkYes n m s ws a b sheet ≡ yes.Step i → BadAt (linesOf s) (counted s ws) n sheet i
-  unfolding ofSteps
-  step-lowest {i} h = step-bad-at (linesOf s) (counted s ws) n sheet a b i (by-steps (yes.Step i) refl h)
+  pub step-lowest : {i : ℕ} → checkYes n m s ws a b sheet ≡ yes.Step i → First (failsAt (linesOf s) (counted s ws) n sheet) (length sheet / 8) i
+  step-lowest {i} h = step-bad-at (linesOf s) (counted s ws) n sheet a b i (by-steps h (λ why q. clash cc) (λ q. clash cc))
 
   -- NO SECOND RESULT satisfies the promise of the check
   pub yes-fixed : (r r′ : YesAnswer) → r ≡ checkYes n m s ws a b sheet → r′ ≡ checkYes n m s ws a b sheet → r ≡ r′

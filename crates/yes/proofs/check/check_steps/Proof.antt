@@ -1,5 +1,5 @@
 -- `check_steps`: before step i the rows hold what is known, and what is left of the search is the whole of it
--- (`Passed`); a bad step ends it (`step-bad`), past the last the goal decides (`goal-shown`, `goal-not-shown`).
+-- (`GoodBefore`); a bad step ends it (`step-bad`), past the last the goal decides (`goal-shown`, `goal-not-shown`).
 use mathlib.Core.Path.{_≡_, refl}
 use Prim.Native.Nat.{_-_, _/_, _≤_}
 use native.Mathlib.Omega.{arith}
@@ -10,13 +10,13 @@ use Rattle.pack.specs.Question.{counted}
 use Rattle.pack.proofs.Parts.{cut, cut-length}
 use Rattle.pack.proofs.RecordLaws.{lines-valid}
 use Rattle.pack.proofs.QuestionLaws.{Asked, asked}
-use Rattle.yes.proofs.YesLaws.{Passed, passed-none, passed-more, step-bad, goal-shown, goal-not-shown}
+use Rattle.yes.proofs.YesLaws.{GoodBefore, good-none, good-more, step-bad, goal-shown, goal-not-shown}
 use Rattle.yes.proofs.check.check_steps.Statement.{statement}
 use Rattle.yes.proofs.check.check_steps.Tie as tie
 
 abbrev Inv-loop : tie.InvT-loop
 Inv-loop n m pack marks a b sheet concepts₀ links₀ steps i₀ concepts links i =
-    (steps ≡ length sheet / 8) × (i ≤ steps) × Passed (linesOf pack) (counted pack marks) n sheet concepts links i
+    (steps ≡ length sheet / 8) × (i ≤ steps) × GoodBefore (linesOf pack) (counted pack marks) n sheet concepts links i
 
 abbrev μ-loop : tie.MeasureT-loop
 μ-loop n m pack marks a b sheet concepts₀ links₀ steps i₀ concepts links i = steps - i
@@ -28,7 +28,7 @@ question c = asked _ _ _ _ _ _ (c .pre .0 .1)
 loop-holds : tie.Need-loop-holds Inv-loop μ-loop
 loop-holds c =
     let q = question (c .before .before .before .before .before .before) in
-    (refl, omega arith, rw (c .before .before .start-tables .ensures) (passed-none _ _ _ _ (q .pack .n-most)))
+    (refl, omega arith, rw (c .before .before .start-tables .ensures) (good-none _ _ _ _ (q .pack .n-most)))
 
 check-step-requires : tie.Need-check-step-requires Inv-loop μ-loop
 check-step-requires c κs =
@@ -42,7 +42,7 @@ loop-again c =
     let q = question (c .before .before .before .before .before .before .before .before .before .before .before .before .before) .pack in (
       loop .inv .0,
       omega arith,
-      passed-more _ _ _ _ (loop .inv .2) (omega arith) (step .0) (q .n-most) (q .m-most) (lines-valid _ _ _ (q .all)) (c .if1 .taken) (step .1 .0) (step .1 .1),
+      good-more _ _ _ _ (loop .inv .2) (omega arith) (step .0) (q .n-most) (q .m-most) (lines-valid _ _ _ (q .all)) (c .if1 .taken) (step .1 .0) (step .1 .1),
     )
 
 returns : tie.Need-returns Inv-loop μ-loop
