@@ -1,5 +1,5 @@
--- The laws of the no check: of rows, of the world that they describe, of the answers; C12.
-pub mod RowLaws
+-- The laws of the no check: of a thing and its row, of the world that they describe, of the answers; C12.
+pub mod ThingLaws
 pub mod WorldRows
 pub mod NoLaws
 pub mod GivenLaws

@@ -14,7 +14,7 @@ use Rattle.pack.specs.World.{implies}
 use Rattle.pack.proofs.WorldLaws.{true-implies}
 use Rattle.no.specs.NoSheet.{rowAt, worldOf}
 use Rattle.no.specs.Inner.{Column, RoleFits}
-use Rattle.no.proofs.RowLaws.{some-things, every-things}
+use Rattle.no.proofs.ThingLaws.{some-things, every-things}
 
 -- a thing that is linked to is one of the k things
 pub link-below : (k : ℕ) (sheet : List ℕ) (r x y : ℕ) → RoleFits k sheet r → x < k → y < 64 → has (rowAt sheet (k + (r * k + x))) y ≡ true → y < k

@@ -1,5 +1,5 @@
 -- `row_inside`: one & !other is 0 exactly where the other word has every bit of the one (`inside`).
-use Rattle.no.proofs.RowLaws.{inside}
+use Rattle.no.proofs.ThingLaws.{inside}
 use Rattle.no.proofs.thing.row_inside.Statement.{statement}
 use Rattle.no.proofs.thing.row_inside.Tie as tie
 

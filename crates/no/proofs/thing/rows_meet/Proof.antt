@@ -1,5 +1,5 @@
 -- `rows_meet`: one & other is not 0 exactly where the two words share a bit (`meet`).
-use Rattle.no.proofs.RowLaws.{meet}
+use Rattle.no.proofs.ThingLaws.{meet}
 use Rattle.no.proofs.thing.rows_meet.Statement.{statement}
 use Rattle.no.proofs.thing.rows_meet.Tie as tie
 

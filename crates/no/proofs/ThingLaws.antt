@@ -1,4 +1,4 @@
--- Laws of rows: searches and tests over 64 bits, and over the k things that a row speaks of.
+-- Laws of a thing and its row: tests over 64 bits, and over the k things that a row speaks of.
 use mathlib.Core.Path.{_≡_, refl, sym, ap, _∙_}
 use mathlib.Core.Bool.{Bool, true, false, not, _&&_, and-true}
 use Prim.Native.Nat.{ℕ, suc, _-_, _^_, _≤_, _<_}
@@ -56,18 +56,18 @@ some-things p q k h e f =
 -- a walk over the set bits of a word w, which takes bit after bit off: each bit before y that is set is ok, the rest has
 -- w's bits from y on, and y is the lowest bit of the rest, or 64
 module _ (w : ℕ) (ok : ℕ → Bool) where
-  abbrev pub Passed : ℕ → ℕ → Type 0
-  Passed rest y = ((j : ℕ) → j < y → implies (has w j) (ok j) ≡ true) × ((j : ℕ) → y ≤ j → has rest j ≡ has w j) × Lowest (has rest) 0 64 y
+  abbrev pub OkBefore : ℕ → ℕ → Type 0
+  OkBefore rest y = ((j : ℕ) → j < y → implies (has w j) (ok j) ≡ true) × ((j : ℕ) → y ≤ j → has rest j ≡ has w j) × Lowest (has rest) 0 64 y
 
-  pub pass-start : {r : ℕ} → r ≡ lowest (has w) 0 64 → Passed w r
+  pub pass-start : {r : ℕ} → r ≡ lowest (has w) 0 64 → OkBefore w r
   pass-start {r} e =
       let f : Lowest (has w) 0 64 r = rw e (lowest-is (has w) 0 64) in
       ((λ j h. true-implies (has w j) (ok j) (λ t. never t (f .none j (omega arith) h))), (λ j h. refl), f)
 
-  pub pass-bit : (rest y : ℕ) → y < 64 → Passed rest y → has w y ≡ true
+  pub pass-bit : (rest y : ℕ) → y < 64 → OkBefore rest y → has w y ≡ true
   pass-bit rest y h p = sym (p .1 y (omega arith)) ∙ p .2 .found (omega arith)
 
-  pub pass-on : (rest y next : ℕ) {r : ℕ} → y < 64 → Passed rest y → ok y ≡ true → ((j : ℕ) → has next j ≡ (has rest j && not (eqb (lowest (has rest) 0 64) j))) → r ≡ lowest (has next) 0 64 → Passed next r × (y < r)
+  pub pass-on : (rest y next : ℕ) {r : ℕ} → y < 64 → OkBefore rest y → ok y ≡ true → ((j : ℕ) → has next j ≡ (has rest j && not (eqb (lowest (has rest) 0 64) j))) → r ≡ lowest (has next) 0 64 → OkBefore next r × (y < r)
   pass-on rest y next {r} h p o g e =
       ((λ j k. true-implies (has w j) (ok j) (λ t. at j k t (decLt j y) (decLt y j)), (λ j k. later j (omega (arith, past-y))), f), past-y)
     where
@@ -94,7 +94,7 @@ module _ (w : ℕ) (ok : ℕ → Bool) where
       at j k t (no a) (yes b) = never t (sym (later j b) ∙ f .none j (omega arith) k)
       at j k t (no a) (no b) = let same : y ≡ j = omega arith in ap ok (sym same) ∙ o
 
-  pub pass-end : (k rest y : ℕ) → k ≤ 64 → 64 ≤ y → Passed rest y → true ≡ every k (λ j. implies (has w j) (ok j))
+  pub pass-end : (k rest y : ℕ) → k ≤ 64 → 64 ≤ y → OkBefore rest y → true ≡ every k (λ j. implies (has w j) (ok j))
   pass-end k rest y h l p = sym (true-every (λ j. implies (has w j) (ok j)) k (λ j i. p .0 j (omega arith)))
 
   pub pass-fails : (k y : ℕ) → y < k → has w y ≡ true → ok y ≡ false → false ≡ every k (λ j. implies (has w j) (ok j))
