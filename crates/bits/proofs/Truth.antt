@@ -43,11 +43,11 @@ is-no {a = false} h = refl
 pub turn : (t u : Bool) → (t ≡ true → u ≡ true) → not u ≡ true → not t ≡ true
 turn t u f h = ap not (is-no (λ e. never (f e) (not-true u h)))
 
--- no two numbers that differ are one: for what `cc` finds of answers that cannot be
+-- 0 is not 1: for what `cc` finds where two answers that differ are said to be one
 pub clash : {C : Type 0} → _≡_ {A = ℕ} 0 1 → C
 clash e = absurd (omega arith)
 
--- WHICH OF TWO ANSWERS a test gave: what is not the second is the first, and the test was yes; and the other way round
+-- WHICH OF TWO ANSWERS a test gave: what is not the second is the first, and the test was yes; and the reverse
 pub cond-first : {A : Type 0} (t : Bool) {x y z : A} → cond t x y ≡ z → (y ≡ z → ⊥) → (t ≡ true) × (x ≡ z)
 cond-first true e n = (refl, e)
 cond-first false e n = absurd (n e)

@@ -24,10 +24,11 @@ rowAt sheet i = wordIn (part sheet i)
 abbrev pub rowsOf : ℕ → ℕ → ℕ
 rowsOf m k = k * (1 + m)
 
--- the number of things for which the length is 8 times that, if there is one
+-- k, where the length is 8 · k · (1 + m)
 abbrev pub thingsIn : ℕ → List ℕ → ℕ
 thingsIn m sheet = length sheet / (8 * (1 + m))
 
+-- there is such a k, from 1 to 64
 abbrev pub noLengthFits : ℕ → List ℕ → Bool
 noLengthFits m sheet = eqb (length sheet % (8 * (1 + m))) 0 && (leb 1 (thingsIn m sheet) && leb (thingsIn m sheet) 64)
 

@@ -22,6 +22,7 @@ lengthFits s = eqb (length s % 8) 0 && leb (length s) 8192
 abbrev pub lowestUnkept : ℕ → ℕ → List ℕ → ℕ
 lowestUnkept n m s = lowest (λ i. not (keepsAt n m s i)) 0 (recordCount s)
 
+-- 3 RECORD with the lowest place, else the record count
 unfoldable pub checkRecords : ℕ → ℕ → List ℕ → Checked
 checkRecords n m s =
     cond (ltb (lowestUnkept n m s) (recordCount s))

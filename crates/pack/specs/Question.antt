@@ -10,7 +10,8 @@ use Rattle.pack.specs.declared.check.Checked.{Checked}
 use Rattle.pack.specs.declared.check.Checked.the-variants.{Refused, Count}
 use Rattle.pack.specs.Pack.{checkPack}
 
--- the places that count in an answer: the marked ones
+-- the places that count in an answer: the marked ones; it has the pack too, for a request that will thin the marks by
+-- what the records say
 abbrev pub counted : List ℕ → List ℕ → ℕ → Bool
 counted s ws = marked ws
 
@@ -30,6 +31,7 @@ abbrev pub afterPack : Checked → ℕ → (ℕ → Bool) → ℕ → ℕ → Ch
 afterPack (Refused why) n fits a b = Refused why
 afterPack (Count count) n fits a b = checkCounted n count (fits count) a b
 
+-- 1 to 5, else the record count
 unfoldable pub checkQuestion : ℕ → ℕ → List ℕ → List ℕ → ℕ → ℕ → Checked
 checkQuestion n m s ws a b = afterPack (checkPack n m s) n (marksFit ws) a b
 
