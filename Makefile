@@ -20,7 +20,8 @@ run: target/bin/bench build/desk
 
 speed: $(ARCHIVES)
 	@mkdir -p build
-	@$(PLATFORM) && cd speed && "$$CARGO" run --quiet --offline --release -- "$${EMULATED:-native}" ../build/speed.svg
+	@$(PLATFORM) && echo "building the measurements .." >&2 && \
+		"$$CARGO" run --quiet --offline --release --manifest-path speed/Cargo.toml -- "$${EMULATED:-native}" build
 
 build/desk: examples/desk.c examples/guarded.h include/noolukask.h $(ARCHIVES)
 	@mkdir -p build

@@ -3,6 +3,48 @@
 
 use noolukask_tests::rules::Question;
 
+/// Marks as words.
+pub type MarkWords = [u64; 16];
+
+pub fn bit(row: u64, index: usize) -> bool {
+    row >> (index & 63) & 1 == 1
+}
+
+/// The bits below `end`, which is 1 to 64.
+pub fn low_bits(end: usize) -> u64 {
+    u64::MAX >> (64 - end)
+}
+
+/// Calls `each` with the set bits of a row, ascending.
+pub fn each_bit(mut row: u64, mut each: impl FnMut(usize)) {
+    while row != 0 {
+        each(row.trailing_zeros() as usize);
+        row &= row - 1;
+    }
+}
+
+/// The first set bit of a row that passes the test.
+fn first_bit(mut row: u64, mut test: impl FnMut(usize) -> bool) -> Option<usize> {
+    while row != 0 {
+        let index = row.trailing_zeros() as usize;
+        if test(index) {
+            return Some(index);
+        }
+        row &= row - 1;
+    }
+    None
+}
+
+/// The first marked place that passes the test.
+pub fn first_marked(marks: &MarkWords, mut test: impl FnMut(usize) -> bool) -> Option<usize> {
+    let in_word = |(i, &marked)| first_bit(marked, |index| test(64 * i + index)).map(|index| 64 * i + index);
+    marks.iter().enumerate().find_map(in_word)
+}
+
+fn some_bit(row: u64, test: impl FnMut(usize) -> bool) -> bool {
+    first_bit(row, test).is_some()
+}
+
 fn word(bytes: &[u8], index: usize) -> u64 {
     u64::from_le_bytes(bytes[8 * index..8 * index + 8].try_into().expect("8 bytes"))
 }
@@ -22,26 +64,20 @@ pub fn check_pack(n: u64, m: u64, pack: &[u8]) -> u64 {
         return 2;
     }
     let (n, m) = (n as usize, m as usize);
+    // What a, b and c are below, by kind: no branch hangs on the kind. No kind is 0 or above 6.
+    let below = [[0; 3], [n, n, 1], [n, n, n], [n, m, n], [m, n, n], [m, m, 1], [m, m, m], [0; 3]];
     for place in 0..pack.len() / 8 {
         let [kind, a, b, c] = fields(pack, place);
-        let good = match kind {
-            1 => a < n && b < n && c == 0,
-            2 => a < n && b < n && c < n,
-            3 => a < n && b < m && c < n,
-            4 => a < m && b < n && c < n,
-            5 => a < m && b < m && c == 0,
-            6 => a < m && b < m && c < m,
-            _ => false,
-        };
-        if !good {
+        let [below_a, below_b, below_c] = below[kind.min(7)];
+        if (a >= below_a) | (b >= below_b) | (c >= below_c) {
             return 3 + 256 * place as u64;
         }
     }
     256 * (pack.len() / 8) as u64
 }
 
-/// The record count and the mark words, or what a sheet call returns for numbers 1 to 4.
-pub fn marked(q: &Question) -> Result<(usize, [u64; 16]), u64> {
+/// The record count and the mark words, or what a sheet check returns for numbers 1 to 4.
+pub fn marked(q: &Question) -> Result<(usize, MarkWords), u64> {
     let back = check_pack(q.n, q.m, &q.pack);
     match back & 255 {
         0 => (),
@@ -51,7 +87,7 @@ pub fn marked(q: &Question) -> Result<(usize, [u64; 16]), u64> {
     if q.marks.len() != 128 {
         return Err(4);
     }
-    let marks: [u64; 16] = std::array::from_fn(|i| word(&q.marks, i));
+    let marks: MarkWords = std::array::from_fn(|i| word(&q.marks, i));
     for (i, &marked) in marks.iter().enumerate() {
         let records = count.saturating_sub(64 * i);
         if records < 64 && marked >> records != 0 {
@@ -62,7 +98,7 @@ pub fn marked(q: &Question) -> Result<(usize, [u64; 16]), u64> {
 }
 
 /// The same for numbers 1 to 5.
-pub fn question(q: &Question) -> Result<(usize, [u64; 16]), u64> {
+pub fn question(q: &Question) -> Result<(usize, MarkWords), u64> {
     let found = marked(q)?;
     if q.a >= q.n || q.b >= q.n {
         return Err(5);
@@ -70,8 +106,9 @@ pub fn question(q: &Question) -> Result<(usize, [u64; 16]), u64> {
     Ok(found)
 }
 
-pub fn bit(row: u64, index: usize) -> bool {
-    row >> (index & 63) & 1 == 1
+/// What the other calls return where a sheet check returns this.
+pub fn desk_code(back: u64) -> u64 {
+    back % 16 + 256 * (back / 16)
 }
 
 pub fn check_yes(q: &Question, sheet: &[u8]) -> u64 {
@@ -113,19 +150,9 @@ pub fn check_yes(q: &Question, sheet: &[u8]) -> u64 {
     if bit(rows[q.a as usize], q.b as usize) { 0 } else { 13 }
 }
 
-/// Whether some thing of `row` fails, going from set bit to set bit.
-fn some_bit(mut row: u64, mut test: impl FnMut(usize) -> bool) -> bool {
-    while row != 0 {
-        if test(row.trailing_zeros() as usize) {
-            return true;
-        }
-        row &= row - 1;
-    }
-    false
-}
-
-pub fn check_no(q: &Question, sheet: &[u8]) -> u64 {
-    let (count, marks) = match question(q) {
+/// With `PASS_OVER` a chain is not walked from a thing that lacks none of the ends.
+pub fn check_no<const PASS_OVER: bool>(q: &Question, sheet: &[u8]) -> u64 {
+    let (_, marks) = match question(q) {
         Ok(found) => found,
         Err(back) => return back,
     };
@@ -134,43 +161,36 @@ pub fn check_no(q: &Question, sheet: &[u8]) -> u64 {
     if sheet.len() != 8 * k * (1 + m) || !(1..=64).contains(&k) {
         return 9;
     }
-    let below = |end: usize| u64::MAX >> (64 - end);
     // Links as rows; concepts turned to columns: bit x of column j says that thing x is in j.
     let mut columns = [0u64; 64];
     let mut links = [[0u64; 64]; 8];
     for i in 0..k * (1 + m) {
         let row = word(sheet, i);
-        if row & !below(if i < k { n } else { k }) != 0 {
+        if row & !low_bits(if i < k { n } else { k }) != 0 {
             return 11 + 16 * i as u64;
         }
         if i < k {
-            some_bit(row, |concept| {
-                columns[concept] |= 1 << i;
-                false
-            });
+            each_bit(row, |concept| columns[concept] |= 1 << i);
         } else {
             links[i / k - 1][i % k] = row;
         }
     }
-    for place in 0..count {
-        if !bit(marks[place / 64], place) {
-            continue;
+    let breaks = |[kind, a, b, c]: [usize; 4]| match kind {
+        1 => columns[a] & !columns[b] != 0,
+        2 => columns[a] & columns[b] & !columns[c] != 0,
+        3 => some_bit(columns[a], |x| links[b][x] & columns[c] == 0),
+        4 => some_bit(low_bits(k) & !columns[c], |x| links[a][x] & columns[b] != 0),
+        5 => (0..k).any(|x| links[a][x] & !links[b][x] != 0),
+        _ => {
+            let ends = if PASS_OVER { links[b].iter().fold(0, |ends, row| ends | row) } else { u64::MAX };
+            (0..k).any(|x| {
+                let lacking = ends & !links[c][x];
+                (!PASS_OVER || lacking != 0) && some_bit(links[a][x], |y| links[b][y] & lacking != 0)
+            })
         }
-        let [kind, a, b, c] = fields(&q.pack, place);
-        let broken = match kind {
-            1 => columns[a] & !columns[b] != 0,
-            2 => columns[a] & columns[b] & !columns[c] != 0,
-            3 => some_bit(columns[a], |x| links[b][x] & columns[c] == 0),
-            4 => some_bit(below(k) & !columns[c], |x| links[a][x] & columns[b] != 0),
-            5 => (0..k).any(|x| links[a][x] & !links[b][x] != 0),
-            _ => (0..k).any(|x| {
-                let missing = !links[c][x];
-                some_bit(links[a][x], |y| links[b][y] & missing != 0)
-            }),
-        };
-        if broken {
-            return 12 + 16 * place as u64;
-        }
+    };
+    if let Some(place) = first_marked(&marks, |place| breaks(fields(&q.pack, place))) {
+        return 12 + 16 * place as u64;
     }
     if columns[q.a as usize] & !columns[q.b as usize] != 0 { 0 } else { 13 }
 }

@@ -1,21 +1,69 @@
-//! What is measured: packs, sheets and worlds of full size, n = 64 and m = 8, from fixed seeds.
+//! What is measured: packs, sheets and worlds from a fixed seed, of full size, n = 64 and m = 8, but where a
+//! maker says otherwise.
 
 use noolukask_tests::packs;
 use noolukask_tests::rng::Rng;
 use noolukask_tests::rules::Question;
+use noolukask_tests::runs;
 
-pub const STEPS: usize = 36_000;
-pub const RECORDS: usize = 1024;
+const STEPS: usize = 36_000;
+const RECORDS: usize = 1024;
 const CHAINS: usize = 400;
+/// Bytes: room for any sheet of ours, and out marks.
+pub const ROOM: usize = 8 * 36_800;
+pub const OUT: usize = 128;
+
+/// A question and a sheet that is accepted for it.
+type Answered = (Question, Vec<u8>);
+
+/// Everything that the table measures.
+pub struct Inputs {
+    pub yes: Answered,
+    pub staircase: Answered,
+    pub full: Answered,
+    pub mixed: Vec<Question>,
+    pub open: Question,
+    pub chains: Question,
+    pub open_sheet: Question,
+    pub staged: Question,
+    pub snomed: Question,
+}
+
+impl Inputs {
+    pub fn drawn(rng: &mut Rng) -> Inputs {
+        Inputs {
+            yes: long_yes_sheet(rng),
+            staircase: staircase_no_sheet(rng),
+            full: full_no_sheet(rng),
+            mixed: mixed_packs(rng),
+            open: open_pack(rng, RECORDS),
+            chains: chains_on_full(rng),
+            open_sheet: open_pack(rng, RECORDS),
+            staged: staged_pack(rng, RECORDS),
+            snomed: snomed_pack(rng),
+        }
+    }
+}
+
+/// n - 1 records in reverse, with a goal that does not follow: the passes go to their end. m is 0.
+pub fn reverse_to_the_end(n: u8) -> Question {
+    Question { a: u64::from(n) - 1, b: 0, ..runs::reverse(n) }
+}
 
 /// 1,024 records of all kinds, every one marked.
-pub fn mixed_pack(rng: &mut Rng) -> Question {
+fn mixed_pack(rng: &mut Rng) -> Question {
     let any = |rng: &mut Rng| {
         let [kind, a, b, c] = [rng.between(1, 6), rng.below(64), rng.below(64), rng.below(64)];
         record(kind, a, b, c)
     };
     let records: Vec<[u8; 4]> = (0..RECORDS).map(|_| any(rng)).collect();
     packs::question(64, 8, &records, 0, 1)
+}
+
+/// 64 of them; all but the first have a seed of their own.
+fn mixed_packs(rng: &mut Rng) -> Vec<Question> {
+    let mut own = Rng::new(64);
+    std::iter::once(mixed_pack(rng)).chain((1..64).map(|_| mixed_pack(&mut own))).collect()
 }
 
 /// A record of this kind; role fields are cut down to 0 to 7.
@@ -33,7 +81,7 @@ fn record(kind: usize, a: usize, b: usize, c: usize) -> [u8; 4] {
 
 /// A yes sheet of 36,000 steps: records in random order, a step or a few of each at a time,
 /// so that kinds alternate; one draw in five also takes conclusions again. The goal is shown.
-pub fn long_yes_sheet(rng: &mut Rng) -> (Question, Vec<u8>) {
+fn long_yes_sheet(rng: &mut Rng) -> Answered {
     let mut q = mixed_pack(rng);
     let mut known = Known { concepts: std::array::from_fn(|x| 1 << x), links: [[0; 64]; 8] };
     let mut steps: Vec<[u16; 4]> = Vec::new();
@@ -160,14 +208,14 @@ impl World {
 }
 
 /// An accepted no sheet on links that are half there.
-pub fn staircase_no_sheet(rng: &mut Rng) -> (Question, Vec<u8>) {
+fn staircase_no_sheet(rng: &mut Rng) -> Answered {
     let world = staircase();
     // Thing 3 is in 10 and not in 2.
     (packs::question(64, 8, &world.pack(rng), 10, 2), world.sheet())
 }
 
 /// An accepted no sheet on full links.
-pub fn full_no_sheet(rng: &mut Rng) -> (Question, Vec<u8>) {
+fn full_no_sheet(rng: &mut Rng) -> Answered {
     let world = full();
     (packs::question(64, 8, &world.pack(rng), 1, 0), world.sheet())
 }
@@ -189,9 +237,15 @@ pub fn open_pack(rng: &mut Rng, count: usize) -> Question {
     packs::question(64, 8, &records, 1, 0)
 }
 
+/// The question with no chain marked.
+pub fn without_chains(q: &Question) -> Question {
+    let others = (0..q.pack.len() / 8).filter(|place| q.pack[8 * place] != 6);
+    Question { marks: packs::marks(others), ..q.clone() }
+}
+
 /// Every link there can be, by 134 records, and then 400 chains, which find nothing to add.
 /// That 1 is under 0 does not follow.
-pub fn chains_on_full(rng: &mut Rng) -> Question {
+fn chains_on_full(rng: &mut Rng) -> Question {
     let mut records: Vec<[u8; 4]> = (0..64).filter(|&x| x != 1).map(|x| [1, x, 1, 0]).collect();
     records.extend((0..64).map(|y| [3, 1, 0, y]));
     records.extend((1..8).map(|role| [5, 0, role, 0]));
@@ -206,9 +260,9 @@ fn stage(concept: usize) -> usize {
     (concept / 3).min(STAGES - 1)
 }
 
-/// So many records of all kinds, 128 or more and every one marked, whose printed set is about 30 of them: the goal leads from the
-/// first stage to the last. From a stage to the next there are three ways, of one sort; every other record
-/// leads from concepts of a stage to concepts of the same or of earlier ones.
+/// So many records of all kinds, 128 or more and every one marked, whose printed set is about 30 of them: the
+/// goal leads from the first stage to the last. From a stage to the next there are three ways, of one sort;
+/// every other record leads from concepts of a stage to concepts of the same or of earlier ones.
 pub fn staged_pack(rng: &mut Rng, count: usize) -> Question {
     let mut records: Vec<[u8; 4]> = Vec::new();
     for (from, to) in (0..STAGES - 1).map(|stage| (3 * stage, 3 * stage + 3)) {
@@ -240,8 +294,8 @@ pub fn staged_pack(rng: &mut Rng, count: usize) -> Question {
 
 /// 120 records such as SNOMED CT has, every one marked: 20 body structures, each but the first part of another;
 /// a disease of each, defined by it ("disease and some site structure"); part-of is transitive, and a site
-/// is inherited along it. The goal: a disease of the last structure is one of the first.
-pub fn snomed_pack(rng: &mut Rng) -> Question {
+/// is inherited along it. The goal: a disease of the last structure is one of the first. n is 62 and m is 3.
+fn snomed_pack(rng: &mut Rng) -> Question {
     const STRUCTURES: usize = 20;
     let (part_of, site, exact_site) = (0, 1, 2);
     let (structure, disease) = (60, 61);

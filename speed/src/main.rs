@@ -1,268 +1,209 @@
-//! Times the calls against Rust checkers, an engine and finders of reasons, in one run.
-//! Both get the same warm buffers, which nothing clears or moves between runs; they take turns,
-//! and the least time of many runs counts.
+//! Measures the calls against Rust checkers, an engine and finders of reasons, in one run: a table, as
+//! Markdown, and plots.
 
+mod agree;
+mod clock;
+mod concepts;
 mod engine;
 mod fast;
 mod inputs;
+mod ours;
+mod pairs;
 mod plot;
+mod progress;
 mod reasons;
+mod table;
 
+use clock::{least, Trial};
+use concepts::Columns;
 use engine::Engine;
-use noolukask_tests::calls::raw;
+use inputs::{Inputs, OUT, ROOM};
 use noolukask_tests::packs::places;
 use noolukask_tests::rng::Rng;
 use noolukask_tests::rules::Question;
 use noolukask_tests::runs;
-use std::time::Instant;
+use pairs::Pair;
+use progress::Progress;
+use reasons::Pick;
+use std::path::Path;
+use std::slice::from_ref;
+use table::{thousands, Table};
 
-fn ours_yes(q: &Question, sheet: &mut [u8]) -> u64 {
-    // SAFETY: each pointer and length are of one slice that lives through the call.
-    unsafe {
-        raw::noolukask_check_yes(
-            q.n, q.m, q.pack.as_ptr(), q.pack.len(), q.marks.as_ptr(), q.marks.len(), q.a, q.b,
-            sheet.as_ptr(), sheet.len(),
-        )
+const TWICE: Option<f64> = Some(2.0);
+const HALF_MORE: Option<f64> = Some(1.5);
+
+const NATIVE: &str = "Least processor time on x86-64.";
+const EMULATED: &str = "EMULATED: both ran under one emulator of x86-64; no times of this machine.";
+const METHOD: &str = "\
+The last column has the turns and, where a turn is of several calls, how many. Buffers are warm and not cleared
+between calls. n = 64 and m = 8 where a row says nothing else. A ratio in bold is above what is wanted.
+";
+
+struct Bench {
+    table: Table,
+    progress: Progress,
+}
+
+impl Bench {
+    /// A row of the table; what both calls returned.
+    fn row(&mut self, wanted: Option<f64>, trial: Trial) -> u64 {
+        let least = least(&trial, &mut self.progress);
+        self.table.row(trial.what, &least, wanted);
+        least.back
     }
-}
 
-fn ours_no(q: &Question, sheet: &mut [u8]) -> u64 {
-    // SAFETY: as above.
-    unsafe {
-        raw::noolukask_check_no(
-            q.n, q.m, q.pack.as_ptr(), q.pack.len(), q.marks.as_ptr(), q.marks.len(), q.a, q.b,
-            sheet.as_ptr(), sheet.len(),
-        )
+    /// A check that accepts.
+    fn check(&mut self, what: &str, pair: Pair, (question, sheet): &(Question, Vec<u8>)) {
+        let back = self.row(TWICE, Trial { what, pair, questions: from_ref(question), buffer: sheet });
+        assert_eq!(back, 0, "{what}");
     }
-}
 
-fn ours_pack(q: &Question, _: &mut [u8]) -> u64 {
-    // SAFETY: as above.
-    unsafe { raw::noolukask_check_pack(q.n, q.m, q.pack.as_ptr(), q.pack.len()) }
-}
-
-fn ours_verdict(q: &Question, _: &mut [u8]) -> u64 {
-    // SAFETY: as above.
-    unsafe {
-        raw::noolukask_verdict(
-            q.n, q.m, q.pack.as_ptr(), q.pack.len(), q.marks.as_ptr(), q.marks.len(), q.a, q.b,
-        )
-    }
-}
-
-fn ours_write(q: &Question, sheet: &mut [u8]) -> u64 {
-    // SAFETY: as above; only the call writes to the sheet meanwhile.
-    unsafe {
-        raw::noolukask_write_sheet(
-            q.n, q.m, q.pack.as_ptr(), q.pack.len(), q.marks.as_ptr(), q.marks.len(), q.a, q.b,
-            sheet.as_mut_ptr(), sheet.len(),
-        )
-    }
-}
-
-fn ours_module(q: &Question, out: &mut [u8]) -> u64 {
-    // SAFETY: as above; only the call writes to the out marks meanwhile.
-    unsafe {
-        raw::noolukask_module(
-            q.n, q.m, q.pack.as_ptr(), q.pack.len(), q.marks.as_ptr(), q.marks.len(), q.a,
-            out.as_mut_ptr(), out.len(),
-        )
-    }
-}
-
-fn ours_set(q: &Question, out: &mut [u8]) -> u64 {
-    // SAFETY: as above.
-    unsafe {
-        raw::noolukask_printed_set(
-            q.n, q.m, q.pack.as_ptr(), q.pack.len(), q.marks.as_ptr(), q.marks.len(), q.a, q.b,
-            out.as_mut_ptr(), out.len(),
-        )
-    }
-}
-
-type Call = fn(&Question, &mut [u8]) -> u64;
-
-/// One run: nanoseconds, with the result compared. The compiler cannot know which call it will be,
-/// and so can neither leave it out nor move it.
-fn time(call: Call, q: &Question, sheet: &mut [u8], expected: u64) -> u128 {
-    // SAFETY: the pointer is of a value that may be copied.
-    let call = unsafe { std::ptr::read_volatile(&call) };
-    let start = Instant::now();
-    let back = call(q, sheet);
-    let taken = start.elapsed().as_nanos();
-    assert_eq!(back, expected);
-    taken
-}
-
-/// What is measured, the largest ratio that is wanted, and how many turns are taken.
-struct Line<'a>(&'a str, Option<f64>, u32);
-
-/// The least time of each over the turns; who goes first alternates. Each has its own sheet or out marks, and
-/// both leave the same bytes.
-fn least(ours: Call, rust: Call, (q, sheet): (&Question, Vec<u8>), expected: u64, turns: u32) -> [u128; 2] {
-    let mut best = [u128::MAX; 2];
-    let (mut our_sheet, mut rust_sheet) = (sheet.clone(), sheet);
-    for turn in 0..turns {
-        for first in [true, false] {
-            if first == (turn % 2 == 0) {
-                best[0] = best[0].min(time(ours, q, &mut our_sheet, expected));
-            } else {
-                best[1] = best[1].min(time(rust, q, &mut rust_sheet, expected));
-            }
+    /// Two rows: against Rust with columns of concepts, and with rows of them as ours has.
+    fn both_tables(&mut self, what: &str, wanted: Option<f64>, pairs: [Pair; 2], question: &Question, room: usize) {
+        let rows = format!("{what}; Rust by rows too");
+        for (what, pair) in [what, &rows].into_iter().zip(pairs) {
+            self.row(wanted, Trial { what, pair, questions: from_ref(question), buffer: &vec![0; room] });
         }
     }
-    assert!(our_sheet == rust_sheet, "the sheets differ");
-    best
-}
 
-/// A line of the table; while it is measured, its name stands on standard error.
-fn measure(line: Line, ours: Call, rust: Call, (q, sheet): (Question, Vec<u8>), expected: u64) {
-    let Line(what, wanted, turns) = line;
-    eprint!("\r{:<100}\r", format!("measuring {what} .."));
-    let [ours, rust] = least(ours, rust, (&q, sheet), expected, turns);
-    eprint!("\r{:<100}\r", "");
-    let wanted = wanted.map_or(String::new(), |most| format!("{most:.2}"));
-    let ratio = ours as f64 / rust as f64;
-    println!("{what:<72} {ours:>10} {rust:>10} {ratio:>6.2} {wanted:>6}");
-}
-
-/// The verdict call, or the sheet writer with room for any sheet of ours. Passes and facts are those of
-/// the Rust engine up to the goal or the end.
-fn measure_engine(Line(what, wanted, turns): Line, write: bool, q: Question) {
-    let (count, marks) = fast::question(&q).expect("a good question");
-    let run = Engine::settle::<false>(&q, count, &marks);
-    let what = format!("{what}: {} passes, {} facts", run.passes, run.facts);
-    let rust_verdict: Call = |q, _| engine::verdict(q);
-    let (ours, rust, room) = if write {
-        (ours_write as Call, engine::write_sheet as Call, 8 * 36_800)
-    } else {
-        (ours_verdict as Call, rust_verdict, 0)
-    };
-    let mut sheet = vec![0; room];
-    let expected = rust(&q, &mut sheet);
-    measure(Line(&what, wanted, turns), ours, rust, (q, vec![0; room]), expected);
-}
-
-fn measure_checks(rng: &mut Rng) {
-    let rust_yes: Call = |q, sheet| fast::check_yes(q, sheet);
-    let rust_no: Call = |q, sheet| fast::check_no(q, sheet);
-    let rust_pack: Call = |q, _| fast::check_pack(q.n, q.m, &q.pack);
-    let twice = Some(2.0);
-    let line = Line("yes check, 36,000 steps, 1,024 records", twice, 400);
-    measure(line, ours_yes, rust_yes, inputs::long_yes_sheet(rng), 0);
-    let line = Line("no check, k 64, 1,024 records, 400 chains, half the links", twice, 200);
-    measure(line, ours_no, rust_no, inputs::staircase_no_sheet(rng), 0);
-    let line = Line("no check, k 64, 1,024 records, 400 chains, all links", twice, 200);
-    measure(line, ours_no, rust_no, inputs::full_no_sheet(rng), 0);
-    let line = Line("pack check, 1,024 records", None, 5000);
-    measure(line, ours_pack, rust_pack, (inputs::mixed_pack(rng), Vec::new()), 256 * 1024);
-}
-
-fn measure_engines(rng: &mut Rng) {
-    let half_more = Some(1.5);
-    measure_engine(Line("verdict, 1,024 mixed records", half_more, 200), false, inputs::open_pack(rng, inputs::RECORDS));
-    measure_engine(Line("verdict, 400 chains on full tables", half_more, 100), false, inputs::chains_on_full(rng));
-    let reverse = Question { a: 63, b: 0, ..runs::reverse(64) };
-    measure_engine(Line("verdict, 63 records in reverse", None, 200), false, reverse);
-    measure_engine(Line("verdict, counters", None, 2), false, runs::counters(64, 8));
-    measure_engine(Line("yes sheet, the longest", Some(2.0), 200), true, runs::fullest());
-    measure_engine(Line("no sheet, 1,024 mixed records", Some(2.0), 200), true, inputs::open_pack(rng, inputs::RECORDS));
-}
-
-/// A call that gives reasons; how many records it found stands in the line.
-fn measure_reasons(Line(what, wanted, turns): Line, ours: Call, rust: Call, q: &Question) {
-    let back = ours(q, &mut [0; 128]);
-    assert_eq!(back % 256, 0, "{what}");
-    let what = format!("{what}: {} records", back / 256);
-    measure(Line(&what, wanted, turns), ours, rust, (q.clone(), vec![0; 128]), back);
-}
-
-/// How many completions a printed set takes by halving, and how many are wanted at most.
-fn count_completions(what: &str, q: &Question) {
-    let mut out = [0; 128];
-    let kept = ours_set(q, &mut out) / 256;
-    let (set, count) = reasons::by_halving(q);
-    assert!(set == out, "{what}: the sets differ");
-    let marked = places(&q.marks).len() as u64;
-    let log = 63 - u64::from(marked.leading_zeros());
-    let most = format!("({kept} + 1) * ({log} + 2) = {}", (kept + 1) * (log + 2));
-    println!("completions of a set by halving, {what}: {count}; wanted: at most {most}");
-}
-
-fn measure_all_reasons(rng: &mut Rng) {
-    let (staged, snomed) = (inputs::staged_pack(rng, inputs::RECORDS), inputs::snomed_pack(rng));
-    let half_more = Some(1.5);
-    let line = Line("module, 1,024 mixed records", half_more, 2000);
-    measure_reasons(line, ours_module, reasons::module, &staged);
-    let line = Line("module, 63 records in reverse", half_more, 2000);
-    measure_reasons(line, ours_module, reasons::module, &runs::reverse(64));
-    let line = Line("set, 1,024 mixed records, Rust deletion", None, 2);
-    measure_reasons(line, ours_set, reasons::printed_set, &staged);
-    let line = Line("set, 1,024 mixed records, deletion by our verdicts", Some(0.5), 2);
-    measure_reasons(line, ours_set, reasons::printed_by_verdicts, &staged);
-    let line = Line("set, 120 SNOMED-like records, Rust deletion", half_more, 200);
-    measure_reasons(line, ours_set, reasons::printed_set, &snomed);
-    count_completions("1,024 mixed records", &staged);
-    count_completions("120 SNOMED-like records", &snomed);
-}
-
-const RUST_VERDICT: Call = |q, _| engine::verdict(q);
-
-/// Verdicts on these questions, by x: two lines, ours and Rust's, in microseconds.
-fn verdict_lines(questions: impl Iterator<Item = (f64, Question)>) -> Vec<plot::Series> {
-    let (mut ours, mut rust) = (Vec::new(), Vec::new());
-    for (x, q) in questions {
-        eprint!("\r{:<100}\r", format!("plotting verdicts, {x} .."));
-        let best = least(ours_verdict, RUST_VERDICT, (&q, Vec::new()), RUST_VERDICT(&q, &mut []), 20);
-        ours.push((x, best[0] as f64 / 1e3));
-        rust.push((x, best[1] as f64 / 1e3));
+    fn verdict(&mut self, what: &str, wanted: Option<f64>, q: &Question) {
+        let what = format!("verdict, {what}{}", run(q));
+        self.both_tables(&what, wanted, [pairs::VERDICT, pairs::VERDICT_BY_ROWS], q, 0);
     }
-    vec![plot::Series { name: "ours", points: ours }, plot::Series { name: "Rust", points: rust }]
+
+    fn sheet(&mut self, what: &str, q: &Question) {
+        let what = format!("our {what}{}", run(q));
+        self.both_tables(&what, TWICE, [pairs::SHEET, pairs::SHEET_BY_ROWS], q, ROOM);
+    }
+
+    /// A call that gives reasons; how many records it finds stands in the row.
+    fn reasons(&mut self, what: &str, wanted: Option<f64>, pair: Pair, q: &Question) {
+        let found = (pair.ours)(q, &mut [0; OUT]) / 256;
+        let what = &what.replace('#', &thousands(found));
+        self.row(wanted, Trial { what, pair, questions: from_ref(q), buffer: &[0; OUT] });
+    }
+
+    /// How many completions a printed set takes by halving, and how many are wanted at most.
+    fn completions(&mut self, what: &str, q: &Question) {
+        let (kept, asked) = reasons::counted(q, reasons::by_halving);
+        let log = places(&q.marks).len().ilog2();
+        let most = (kept + 1) * (u64::from(log) + 2);
+        let wanted = format!("({kept} + 1) · ({log} + 2) = {most}");
+        self.table.line(&format!("Completions of a set by halving, {what}: {asked}; wanted: at most {wanted}."));
+    }
+}
+
+/// Passes and facts of the Rust engine, up to the goal or to the end.
+fn run(q: &Question) -> String {
+    let (_, marks) = fast::question(q).expect("a good question");
+    let run = Engine::<Columns>::settle::<false>(q, &marks);
+    let passes = if run.passes == 1 { "1 pass".into() } else { format!("{} passes", thousands(run.passes as u64)) };
+    format!(": {passes}, {} facts", thousands(run.facts() as u64))
+}
+
+fn measure_checks(bench: &mut Bench, inputs: &Inputs) {
+    let what = "pack check, 1,024 records";
+    let back = bench.row(None, Trial { what, pair: pairs::PACK, questions: &inputs.mixed, buffer: &[] });
+    assert_eq!(back, 256 * 1024, "{what}");
+    bench.check("yes check, 36,000 steps", pairs::YES, &inputs.yes);
+    for (links, input) in [("half the links", &inputs.staircase), ("all links", &inputs.full)] {
+        let what = format!("no check, 64 things, 400 chains, {links}");
+        bench.check(&what, pairs::NO, input);
+        bench.check(&format!("{what}; Rust walks every chain too"), pairs::NO_WALKED, input);
+    }
+}
+
+fn measure_engines(bench: &mut Bench, inputs: &Inputs) {
+    bench.verdict("1,024 mixed records", HALF_MORE, &inputs.open);
+    bench.verdict("the same records without their chains", None, &inputs::without_chains(&inputs.open));
+    bench.verdict("400 chains on full tables", HALF_MORE, &inputs.chains);
+    bench.verdict("63 records in reverse (m = 0)", None, &inputs::reverse_to_the_end(64));
+    bench.verdict("counters", None, &runs::counters(64, 8));
+    bench.sheet("yes sheet, the longest", &runs::fullest());
+    bench.sheet("no sheet, 1,024 mixed records", &inputs.open_sheet);
+}
+
+fn measure_reasons(bench: &mut Bench, inputs: &Inputs) {
+    bench.reasons("module, 1,024 mixed records, # in it", HALF_MORE, pairs::MODULE, &inputs.staged);
+    bench.reasons("module, 63 records in reverse (m = 0), # in it", HALF_MORE, pairs::MODULE, &runs::reverse(64));
+    let (deletion, ours) = ("; Rust by deletion", "; deletion by our verdict");
+    let set = "printed set, 1,024 mixed records, # kept";
+    bench.reasons(set, None, pairs::SET, &inputs.staged);
+    bench.reasons(&format!("{set}{deletion}"), None, pairs::SET_BY_DELETION, &inputs.staged);
+    bench.reasons(&format!("{set}{ours}"), Some(0.5), pairs::SET_BY_VERDICTS, &inputs.staged);
+    let set = "printed set, 120 SNOMED-like records (n = 62, m = 3), # kept";
+    bench.reasons(set, None, pairs::SET, &inputs.snomed);
+    bench.reasons(&format!("{set}{deletion}"), HALF_MORE, pairs::SET_BY_DELETION, &inputs.snomed);
+}
+
+/// Verdicts on these questions, by x: a line for each of us, in microseconds.
+fn verdict_lines(bench: &mut Bench, questions: impl Iterator<Item = (usize, Question)>) -> Vec<plot::Series> {
+    let mut lines = ["ours", "Rust", "Rust by rows too"].map(|name| plot::Series { name, points: Vec::new() });
+    for (x, question) in questions {
+        let what = format!("plotting verdicts, {x}");
+        let mut time = |pair| {
+            let trial = Trial { what: &what, pair, questions: from_ref(&question), buffer: &[] };
+            least(&trial, &mut bench.progress)
+        };
+        let (columns, rows) = (time(pairs::VERDICT), time(pairs::VERDICT_BY_ROWS));
+        for (line, time) in lines.iter_mut().zip([columns.ours.min(rows.ours), columns.rust, rows.rust]) {
+            line.points.push((x as f64, time / 1e3));
+        }
+    }
+    lines.into()
+}
+
+/// How often it is asked for a printed set whether the goal follows, by the number of records.
+fn completion_lines(bench: &mut Bench, rng: &mut Rng) -> Vec<plot::Series> {
+    let mut lines = ["by halving", "by deletion"].map(|name| plot::Series { name, points: Vec::new() });
+    for count in [128, 256, 512, 1024] {
+        bench.progress.begin(&format!("plotting completions, {count} records"));
+        let question = inputs::staged_pack(rng, count);
+        for (line, pick) in lines.iter_mut().zip([reasons::by_halving as Pick, reasons::by_deletion]) {
+            line.points.push((count as f64, reasons::counted(&question, pick).1 as f64));
+        }
+    }
+    lines.into()
 }
 
 /// Where numbers say less than a plot: cost against records and against passes, completions against records.
-fn draw(rng: &mut Rng, path: &str) {
-    let by_records = verdict_lines([64, 128, 256, 512, 1024].into_iter().map(|count| (count as f64, inputs::open_pack(rng, count))));
-    let by_passes = verdict_lines([8, 16, 32, 64].into_iter().map(|n| {
-        let reverse = runs::reverse(n);
-        (n as f64, Question { a: n as u64 - 1, b: 0, ..reverse })
-    }));
-    let (mut halving, mut deletion) = (Vec::new(), Vec::new());
-    for count in [128, 256, 512, 1024] {
-        eprint!("\r{:<100}\r", format!("plotting completions, {count} records .."));
-        let (_, asked) = reasons::by_halving(&inputs::staged_pack(rng, count));
-        halving.push((count as f64, asked as f64));
-        deletion.push((count as f64, count as f64));
-    }
-    eprint!("\r{:<100}\r", "");
-    let completions = vec![
-        plot::Series { name: "halving", points: halving },
-        plot::Series { name: "record by record", points: deletion },
-    ];
-    let drawn = plot::svg(&[
-        plot::Panel { title: "Verdict, mixed records, to the end", x: "records", y: "microseconds", series: by_records },
-        plot::Panel { title: "Verdict, records in reverse", x: "passes", y: "microseconds", series: by_passes },
-        plot::Panel { title: "Printed set, about 30 kept", x: "records", y: "completions", series: completions },
-    ]);
-    std::fs::write(path, drawn).expect("the plot can be written");
-    println!("drawn: {path}");
+fn plots(bench: &mut Bench, rng: &mut Rng) -> Vec<plot::Panel> {
+    let mixed = [64, 128, 256, 512, 1024].into_iter().map(|count| (count, inputs::open_pack(rng, count)));
+    let by_records = verdict_lines(bench, mixed);
+    let reverse = [8, 16, 32, 64].into_iter().map(|n| (usize::from(n), inputs::reverse_to_the_end(n)));
+    let by_passes = verdict_lines(bench, reverse);
+    let completions = completion_lines(bench, rng);
+    let panel = |title, x, y, series| plot::Panel { title, x, y, series };
+    vec![
+        panel("Verdict, mixed records, to the end", "records", "microseconds", by_records),
+        panel("Verdict, records in reverse", "passes", "microseconds", by_passes),
+        panel("Printed set, about 30 kept", "records", "completions", completions),
+    ]
 }
 
 fn main() {
-    // The words after the program: "emulated" or "native", and where to draw.
-    let emulated = std::env::args().nth(1).as_deref() == Some("emulated");
+    // The words after the program: "emulated" or "native", and the folder for the table and the plots.
+    let words: Vec<String> = std::env::args().collect();
+    let [_, machine, folder] = &words[..] else { panic!("emulated or native, and a folder") };
+    let (emulated, folder) = (machine == "emulated", Path::new(folder));
+    let mut bench = Bench { table: Table::new(emulated), progress: Progress::new() };
+    bench.progress.begin("comparing what the programs answer");
+    agree::assert_alike(&mut Rng::new(1));
     let mut rng = Rng::new(36);
-    println!("Least time of many runs in turn; warm buffers, not cleared between runs; n = 64, m = 8.");
-    if emulated {
-        println!("EMULATED: both ran under one emulator of x86-64. The times are no measurements of this");
-        println!("machine; the ratios compare two emulated programs, and those of x86-64 itself may differ.");
-    }
-    let ratio = if emulated { "ratio (emulated), wanted" } else { "ratio, wanted" };
-    println!("{:<72} {:>10} {:>10} {:>6}", "what", "ours (ns)", "Rust (ns)", ratio);
-    measure_checks(&mut rng);
-    measure_engines(&mut rng);
-    measure_all_reasons(&mut rng);
-    if let Some(path) = std::env::args().nth(2) {
-        draw(&mut rng, &path);
-    }
+    let inputs = Inputs::drawn(&mut rng);
+    bench.progress.clear();
+    bench.table.line(if emulated { EMULATED } else { NATIVE });
+    bench.table.line(METHOD);
+    bench.table.head();
+    measure_checks(&mut bench, &inputs);
+    measure_engines(&mut bench, &inputs);
+    measure_reasons(&mut bench, &inputs);
+    bench.table.line("");
+    bench.completions("1,024 mixed records", &inputs.staged);
+    bench.completions("120 SNOMED-like records", &inputs.snomed);
+    std::fs::write(folder.join("speed.md"), bench.table.text()).expect("the table can be written");
+    let drawn = plot::svg(if emulated { EMULATED } else { NATIVE }, &plots(&mut bench, &mut rng));
+    bench.progress.clear();
+    std::fs::write(folder.join("speed.svg"), drawn).expect("the plots can be written");
+    println!("\nWritten: speed.md and speed.svg, into {}.", folder.display());
 }
