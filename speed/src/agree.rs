@@ -2,6 +2,7 @@
 
 use crate::inputs::{OUT, ROOM};
 use crate::pairs::{self, Pair};
+use crate::progress::Progress;
 use noolukask_tests::packs;
 use noolukask_tests::rng::Rng;
 use noolukask_tests::rules::{show, Question};
@@ -47,7 +48,9 @@ fn question(rng: &mut Rng, q: &Question) {
 }
 
 /// Small questions of all sizes, some of them with a byte of the pack damaged, and large ones.
-pub fn assert_alike(rng: &mut Rng) {
+pub fn assert_alike(rng: &mut Rng, progress: &mut Progress) {
+    let what = "comparing what the programs answer";
+    progress.begin(what);
     for turn in 0..1000 {
         let (n, m, count) = (rng.between(1, 12), rng.between(0, 4), rng.below(40));
         let mut q = packs::random_question(rng, n, m, count);
@@ -55,9 +58,12 @@ pub fn assert_alike(rng: &mut Rng) {
             q.pack[rng.below(8 * count)] ^= 1 << rng.below(8);
         }
         question(rng, &q);
+        progress.go_on(what, turn);
     }
     for shape in 0..40 {
         let q = packs::large_question(rng, shape);
         question(rng, &q);
+        progress.go_on(what, 1000 + shape as u32);
     }
+    progress.clear();
 }

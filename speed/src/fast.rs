@@ -111,6 +111,50 @@ pub fn desk_code(back: u64) -> u64 {
     back % 16 + 256 * (back / 16)
 }
 
+/// Facts are numbered, "X in B" as 64 X + B and "X r Y" as 4,096 (1 + r) + 64 X + Y. So the number of a rule's
+/// premise or conclusion is a base, and X, Y and Z so many times.
+#[derive(Clone, Copy)]
+struct Numbered {
+    base: u16,
+    x: u16,
+    y: u16,
+    z: u16,
+}
+
+impl Numbered {
+    fn at(self, [x, y, z]: [u16; 3]) -> usize {
+        let [x, y, z] = [self.x.wrapping_mul(x), self.y.wrapping_mul(y), self.z.wrapping_mul(z)];
+        usize::from(self.base.wrapping_add(x).wrapping_add(y).wrapping_add(z))
+    }
+}
+
+/// A record as the yes check reads it: one shape for all kinds, so that no branch hangs on the kind.
+#[derive(Clone, Copy)]
+struct Rule {
+    premises: [Numbered; 2],
+    conclusion: Numbered,
+    /// The bits of a step that are zero.
+    zero: u64,
+}
+
+fn rule(fields: [usize; 4]) -> Rule {
+    let [kind, a, b, c] = fields.map(|field| field as u16);
+    let numbered = |base: u16, x: u16, y: u16, z: u16| Numbered { base, x, y, z };
+    let role = |role: u16| role.wrapping_add(1).wrapping_mul(4096);
+    let (x_in, y_in) = (|b| numbered(b, 64, 0, 0), |b| numbered(b, 0, 64, 0));
+    let (x_to_y, y_to_z) = (|r| numbered(role(r), 64, 1, 0), |r| numbered(role(r), 0, 64, 1));
+    let (no_z, no_y_z) = (0xFF << 32, 0xFFFF << 24);
+    let (premises, conclusion, zero) = match kind {
+        1 => ([x_in(a), x_in(a)], x_in(b), no_y_z),
+        2 => ([x_in(a), x_in(b)], x_in(c), no_y_z),
+        3 => ([x_in(a), x_in(a)], numbered(role(b).wrapping_add(c), 64, 0, 0), no_y_z),
+        4 => ([x_to_y(a), y_in(b)], x_in(c), no_z),
+        5 => ([x_to_y(a), x_to_y(a)], x_to_y(b), no_z),
+        _ => ([x_to_y(a), y_to_z(b)], numbered(role(c), 64, 0, 1), 0),
+    };
+    Rule { premises, conclusion, zero: zero | u64::MAX << 40 }
+}
+
 pub fn check_yes(q: &Question, sheet: &[u8]) -> u64 {
     let (count, marks) = match question(q) {
         Ok(found) => found,
@@ -119,35 +163,30 @@ pub fn check_yes(q: &Question, sheet: &[u8]) -> u64 {
     if sheet.len() % 8 != 0 || sheet.len() > 524_288 {
         return 9;
     }
-    let n = q.n as usize;
-    // Rows 0 to 63: the concepts of x; then 64 rows a role: the links from x.
-    let mut rows = [0u64; 576];
-    (0..64).for_each(|x| rows[x] = 1 << x);
+    let n = q.n as u16;
+    let mut rules = [rule([1, 0, 0, 0]); 1024];
+    (0..count).for_each(|place| rules[place] = rule(fields(&q.pack, place)));
+    // A bit for each number of a fact.
+    let mut held = [0u64; 1024];
+    (0..64).for_each(|x| held[x] = 1 << x);
+    let holds = |held: &[u64; 1024], fact: usize| bit(held[(fact / 64) & 1023], fact);
     for i in 0..sheet.len() / 8 {
         let step = word(sheet, i);
         let place = (step & 0xFFFF) as usize;
-        let [x, y, z] = [16, 24, 32].map(|shift| (step >> shift & 255) as usize);
-        let refused = 10 + 16 * i as u64;
-        if step >> 40 != 0 || place >= count || !bit(marks[place / 64], place) || x >= n || y >= n || z >= n {
-            return refused;
+        if place >= count || !bit(marks[place / 64], place) {
+            return 10 + 16 * i as u64;
         }
-        let [kind, a, b, c] = fields(&q.pack, place);
-        let links = |role: usize, from: usize| 64 * (1 + role) + from;
-        // The premises hold and the unused numbers are zero; the row and the bit of the conclusion.
-        let (good, row, column) = match kind {
-            1 => ((y | z) == 0 && bit(rows[x], a), x, b),
-            2 => ((y | z) == 0 && bit(rows[x], a) && bit(rows[x], b), x, c),
-            3 => ((y | z) == 0 && bit(rows[x], a), links(b, x), c),
-            4 => (z == 0 && bit(rows[links(a, x)], y) && bit(rows[y], b), x, c),
-            5 => (z == 0 && bit(rows[links(a, x)], y), links(b, x), y),
-            _ => (bit(rows[links(a, x)], y) && bit(rows[links(b, y)], z), links(c, x), z),
-        };
-        if !good {
-            return refused;
+        let rule = &rules[place];
+        let xyz = [16, 24, 32].map(|shift| (step >> shift & 255) as u16);
+        let small = (xyz[0] < n) & (xyz[1] < n) & (xyz[2] < n);
+        let hold = holds(&held, rule.premises[0].at(xyz)) & holds(&held, rule.premises[1].at(xyz));
+        if !(small & hold & (step & rule.zero == 0)) {
+            return 10 + 16 * i as u64;
         }
-        rows[row] |= 1 << column;
+        let fact = rule.conclusion.at(xyz);
+        held[(fact / 64) & 1023] |= 1 << (fact % 64);
     }
-    if bit(rows[q.a as usize], q.b as usize) { 0 } else { 13 }
+    if bit(held[q.a as usize], q.b as usize) { 0 } else { 13 }
 }
 
 /// With `PASS_OVER` a chain is not walked from a thing that lacks none of the ends.

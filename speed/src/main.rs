@@ -86,8 +86,8 @@ impl Bench {
     /// How many completions a printed set takes by halving, and how many are wanted at most.
     fn completions(&mut self, what: &str, q: &Question) {
         let (kept, asked) = reasons::counted(q, reasons::by_halving);
-        let log = places(&q.marks).len().ilog2();
-        let most = (kept + 1) * (u64::from(log) + 2);
+        let log = u64::from(63 - (places(&q.marks).len() as u64).leading_zeros());
+        let most = (kept + 1) * (log + 2);
         let wanted = format!("({kept} + 1) · ({log} + 2) = {most}");
         self.table.line(&format!("Completions of a set by halving, {what}: {asked}; wanted: at most {wanted}."));
     }
@@ -115,7 +115,7 @@ fn measure_checks(bench: &mut Bench, inputs: &Inputs) {
 
 fn measure_engines(bench: &mut Bench, inputs: &Inputs) {
     bench.verdict("1,024 mixed records", HALF_MORE, &inputs.open);
-    bench.verdict("the same records without their chains", None, &inputs::without_chains(&inputs.open));
+    bench.verdict("1,024 mixed records but for the chains", None, &inputs::without_chains(&inputs.open));
     bench.verdict("400 chains on full tables", HALF_MORE, &inputs.chains);
     bench.verdict("63 records in reverse (m = 0)", None, &inputs::reverse_to_the_end(64));
     bench.verdict("counters", None, &runs::counters(64, 8));
@@ -183,15 +183,14 @@ fn plots(bench: &mut Bench, rng: &mut Rng) -> Vec<plot::Panel> {
 
 fn main() {
     // The words after the program: "emulated" or "native", and the folder for the table and the plots.
-    let words: Vec<String> = std::env::args().collect();
-    let [_, machine, folder] = &words[..] else { panic!("emulated or native, and a folder") };
-    let (emulated, folder) = (machine == "emulated", Path::new(folder));
+    let mut words = std::env::args().skip(1);
+    let emulated = words.next().expect("emulated or native") == "emulated";
+    let folder = words.next().expect("a folder");
+    let folder = Path::new(&folder);
     let mut bench = Bench { table: Table::new(emulated), progress: Progress::new() };
-    bench.progress.begin("comparing what the programs answer");
-    agree::assert_alike(&mut Rng::new(1));
+    agree::assert_alike(&mut Rng::new(1), &mut bench.progress);
     let mut rng = Rng::new(36);
     let inputs = Inputs::drawn(&mut rng);
-    bench.progress.clear();
     bench.table.line(if emulated { EMULATED } else { NATIVE });
     bench.table.line(METHOD);
     bench.table.head();

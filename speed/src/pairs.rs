@@ -13,23 +13,19 @@ pub struct Pair {
     pub rust: Call,
 }
 
-const fn pair(ours: Call, rust: Call) -> Pair {
-    Pair { ours, rust }
-}
-
-pub const PACK: Pair = pair(ours::check_pack, |q, _| fast::check_pack(q.n, q.m, &q.pack));
-pub const YES: Pair = pair(ours::check_yes, |q, sheet| fast::check_yes(q, sheet));
-pub const NO: Pair = pair(ours::check_no, |q, sheet| fast::check_no::<true>(q, sheet));
+pub const PACK: Pair = Pair { ours: ours::check_pack, rust: |q, _| fast::check_pack(q.n, q.m, &q.pack) };
+pub const YES: Pair = Pair { ours: ours::check_yes, rust: |q, sheet| fast::check_yes(q, sheet) };
+pub const NO: Pair = Pair { ours: ours::check_no, rust: |q, sheet| fast::check_no::<true>(q, sheet) };
 /// Rust walks every chain.
-pub const NO_WALKED: Pair = pair(ours::check_no, |q, sheet| fast::check_no::<false>(q, sheet));
-pub const VERDICT: Pair = pair(ours::verdict, |q, _| engine::verdict::<Columns>(q));
+pub const NO_WALKED: Pair = Pair { ours: ours::check_no, rust: |q, sheet| fast::check_no::<false>(q, sheet) };
+pub const VERDICT: Pair = Pair { ours: ours::verdict, rust: |q, _| engine::verdict::<Columns>(q) };
 /// Rust has rows of concepts, as ours has.
-pub const VERDICT_BY_ROWS: Pair = pair(ours::verdict, |q, _| engine::verdict::<Rows>(q));
-pub const SHEET: Pair = pair(ours::write_sheet, engine::write_sheet::<Columns>);
-pub const SHEET_BY_ROWS: Pair = pair(ours::write_sheet, engine::write_sheet::<Rows>);
-pub const MODULE: Pair = pair(ours::module, reasons::module);
-pub const SET: Pair = pair(ours::printed_set, reasons::set_by_halving);
+pub const VERDICT_BY_ROWS: Pair = Pair { ours: ours::verdict, rust: |q, _| engine::verdict::<Rows>(q) };
+pub const SHEET: Pair = Pair { ours: ours::write_sheet, rust: engine::write_sheet::<Columns> };
+pub const SHEET_BY_ROWS: Pair = Pair { ours: ours::write_sheet, rust: engine::write_sheet::<Rows> };
+pub const MODULE: Pair = Pair { ours: ours::module, rust: reasons::module };
+pub const SET: Pair = Pair { ours: ours::printed_set, rust: reasons::set_by_halving };
 /// Rust deletes record by record.
-pub const SET_BY_DELETION: Pair = pair(ours::printed_set, reasons::set_by_deletion);
+pub const SET_BY_DELETION: Pair = Pair { ours: ours::printed_set, rust: reasons::set_by_deletion };
 /// Deletion record by record that asks our verdict.
-pub const SET_BY_VERDICTS: Pair = pair(ours::printed_set, reasons::set_by_our_verdicts);
+pub const SET_BY_VERDICTS: Pair = Pair { ours: ours::printed_set, rust: reasons::set_by_our_verdicts };

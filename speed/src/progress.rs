@@ -1,7 +1,10 @@
 //! What goes on, on standard error: one line that changes where that is a terminal, else plain lines.
 
-use std::io::{stderr, IsTerminal};
 use std::time::{Duration, Instant};
+
+extern "C" {
+    fn isatty(file: i32) -> i32;
+}
 
 pub struct Progress {
     terminal: bool,
@@ -10,7 +13,9 @@ pub struct Progress {
 
 impl Progress {
     pub fn new() -> Progress {
-        Progress { terminal: stderr().is_terminal(), said: Instant::now() }
+        // SAFETY: it takes any number; 2 is standard error.
+        let terminal = unsafe { isatty(2) } == 1;
+        Progress { terminal, said: Instant::now() }
     }
 
     pub fn begin(&mut self, what: &str) {

@@ -39,7 +39,7 @@ impl Table {
     /// A ratio above what is wanted is bold.
     pub fn row(&mut self, what: &str, least: &Least, wanted: Option<f64>) {
         let ratio = least.ours / least.rust;
-        let above = wanted.is_some_and(|wanted| ratio > wanted);
+        let above = wanted.map_or(false, |wanted| ratio > wanted);
         let ratio = if above { format!("**{ratio:.2}**") } else { format!("{ratio:.2}") };
         let wanted = wanted.map_or(String::new(), |wanted| format!("{wanted} "));
         let [ours, rust] = [least.ours, least.rust].map(microseconds);
