@@ -189,7 +189,17 @@ pub fn check_yes(q: &Question, sheet: &[u8]) -> u64 {
     if bit(held[q.a as usize], q.b as usize) { 0 } else { 13 }
 }
 
-/// With `PASS_OVER` a chain is not walked from a thing that lacks none of the ends.
+/// Whether some thing x has a y by r, and y a z by s, that x has not by t. With `PASS_OVER` none is sought for an
+/// x that lacks no end of s.
+fn breaks_chain<const PASS_OVER: bool>(k: usize, r: &[u64; 64], s: &[u64; 64], t: &[u64; 64]) -> bool {
+    let ends = if PASS_OVER { s.iter().fold(0, |ends, row| ends | row) } else { u64::MAX };
+    (0..k).any(|x| {
+        let lacking = ends & !t[x];
+        (!PASS_OVER || lacking != 0) && some_bit(r[x], |y| s[y] & lacking != 0)
+    })
+}
+
+/// `PASS_OVER` as above.
 pub fn check_no<const PASS_OVER: bool>(q: &Question, sheet: &[u8]) -> u64 {
     let (_, marks) = match question(q) {
         Ok(found) => found,
@@ -220,13 +230,7 @@ pub fn check_no<const PASS_OVER: bool>(q: &Question, sheet: &[u8]) -> u64 {
         3 => some_bit(columns[a], |x| links[b][x] & columns[c] == 0),
         4 => some_bit(low_bits(k) & !columns[c], |x| links[a][x] & columns[b] != 0),
         5 => (0..k).any(|x| links[a][x] & !links[b][x] != 0),
-        _ => {
-            let ends = if PASS_OVER { links[b].iter().fold(0, |ends, row| ends | row) } else { u64::MAX };
-            (0..k).any(|x| {
-                let lacking = ends & !links[c][x];
-                (!PASS_OVER || lacking != 0) && some_bit(links[a][x], |y| links[b][y] & lacking != 0)
-            })
-        }
+        _ => breaks_chain::<PASS_OVER>(k, &links[a], &links[b], &links[c]),
     };
     if let Some(place) = first_marked(&marks, |place| breaks(fields(&q.pack, place))) {
         return 12 + 16 * place as u64;
