@@ -24,8 +24,7 @@ pub struct Least {
 }
 
 const LEAST_TURNS: u32 = 10;
-const MOST_TURNS: u32 = 400;
-/// Turns go on for so long, in nanoseconds of both together, unless their number ends them.
+/// For so long at least turns go on, in nanoseconds of both together.
 const ENOUGH: f64 = 1e9;
 /// So long, in nanoseconds, a turn of the quicker one takes at least: short calls are timed many at a time,
 /// since the clock has its own cost.
@@ -69,7 +68,7 @@ pub fn least(trial: &Trial, progress: &mut Progress) -> Least {
     progress.begin(what);
     let (mut our_buffer, mut rust_buffer) = (buffer.to_vec(), buffer.to_vec());
     let back = rust(&questions[0], &mut rust_buffer);
-    let mut take = |first: bool, calls: u32| match first {
+    let mut take = |our_turn: bool, calls: u32| match our_turn {
         true => turn(ours, questions, &mut our_buffer, back, calls),
         false => turn(rust, questions, &mut rust_buffer, back, calls),
     };
@@ -77,11 +76,11 @@ pub fn least(trial: &Trial, progress: &mut Progress) -> Least {
     let calls = (TURN / quicker).ceil() as u32;
     let mut best = Least { ours: f64::MAX, rust: f64::MAX, turns: 0, calls, back };
     let mut taken = 0.0;
-    while best.turns < LEAST_TURNS || best.turns < MOST_TURNS && taken < ENOUGH {
-        for ours in [best.turns % 2 == 0, best.turns % 2 == 1] {
-            let time = take(ours, calls);
+    while best.turns < LEAST_TURNS || taken < ENOUGH {
+        for our_turn in [best.turns % 2 == 0, best.turns % 2 == 1] {
+            let time = take(our_turn, calls);
             taken += time * f64::from(calls);
-            let best = if ours { &mut best.ours } else { &mut best.rust };
+            let best = if our_turn { &mut best.ours } else { &mut best.rust };
             *best = best.min(time);
         }
         best.turns += 1;
