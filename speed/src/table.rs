@@ -43,8 +43,9 @@ impl Table {
         let ratio = if above { format!("**{ratio:.2}**") } else { format!("{ratio:.2}") };
         let wanted = wanted.map_or(String::new(), |wanted| format!("{wanted} "));
         let [ours, rust] = [least.ours, least.rust].map(microseconds);
+        let turns = thousands(least.turns.into());
         let calls = if least.calls == 1 { String::new() } else { format!(" of {}", least.calls) };
-        self.line(&format!("| {what} | {ours} | {rust} | {ratio} | {wanted}| {}{calls} |", least.turns));
+        self.line(&format!("| {what} | {ours} | {rust} | {ratio} | {wanted}| {turns}{calls} |"));
     }
 
     pub fn text(&self) -> &str {
