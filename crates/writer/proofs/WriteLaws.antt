@@ -48,6 +48,13 @@ use Rattle.writer.proofs.SheetLaws.{with-steps, yes-length, no-length}
 pub rows-few : (n m : ℕ) → m ≤ 8 → n * (1 + m) ≤ n * 9
 rows-few n m h = mul-le-mul-left {m = 1 + m} {n = 9} n (omega arith)
 
+-- with so many rows, what is answered where there is room for them, and where there is none
+pub no-fits : (rows : ℕ) {size : ℕ} → rows * 8 ≤ size → answer.Not rows ≡ sheetAnswer false rows (leb (rows * 8) size)
+no-fits rows {size} h = rw (le-leb (rows * 8) size h)
+
+pub no-short : (rows : ℕ) {size : ℕ} → size < rows * 8 → answer.NoRoom (rows * 8) ≡ sheetAnswer false rows (leb (rows * 8) size)
+no-short rows {size} h = rw (lt-leb (rows * 8) size h) (ap answer.NoRoom (mul-comm rows 8))
+
 -- a row past the concept rows is of one of the roles
 pub div-less : (i n : ℕ) → 1 ≤ n → i < n * 9 → n ≤ i → (i - n) / n < 8
 div-less i n p h l = div-lt-iff-lt-mul p .1 (let e : n * 9 ≡ 8 * n + n = omega arith in omega arith)
@@ -193,12 +200,12 @@ module _ (n m : ℕ) (s ws : List ℕ) (a b : ℕ) {c : ℕ} (taken : checkQuest
 
       go : Dec (length sheet < n * (1 + m) * 8) → Answers n m s ws a b taken sheet r after
       go (yes l) =
-          let d : r ≡ answer.NoRoom (n * (1 + m) * 8) = e ∙ rw (lt-leb (n * (1 + m) * 8) (length sheet) l) (ap answer.NoRoom (mul-comm 8 (n * (1 + m)))) in
+          let d : r ≡ answer.NoRoom (n * (1 + m) * 8) = e ∙ sym (no-short (n * (1 + m)) l) in
           let g : after ≡ sheet = f ∙ rw d in
           rw (d, g) (too-short n m s ws a b taken sheet false (end .0) (noBytes n m s ws) (n * (1 + m)) refl ours-long l)
       go (no l) =
           let room : n * (1 + m) * 8 ≤ length sheet = omega arith in
-          let d : r ≡ answer.Not (n * (1 + m)) = e ∙ rw (le-leb (n * (1 + m) * 8) (length sheet) room) in
+          let d : r ≡ answer.Not (n * (1 + m)) = e ∙ sym (no-fits (n * (1 + m)) room) in
           let same : wordsBytes (listed (n * (1 + m)) 0 (rowIn n cs lks)) ≡ noBytes n m s ws =
           ap wordsBytes (our-rows n m (linesOf s) (counted s ws) blank cs lks blank′ k (q .pack .n-some) (q .pack .n-most) (end .1) (words room) (q .pack .m-most)) in
           let g : after ≡ noBytes n m s ws ++ drop (n * (1 + m) * 8) sheet = f ∙ rw (d, same, ours-long) in

@@ -1,14 +1,12 @@
--- `write_no`: at most 9 rows a thing (`rows-few`): NO ROOM, the sheet as it was, or each row in 8 bytes (`words-length`).
-use mathlib.Core.Path.{refl, ap}
+-- `write_no`: at most 9 rows a thing (`rows-few`): NO ROOM, the sheet as it was (`no-short`), or each row in 8 bytes
+-- (`no-fits`, `words-length`).
+use mathlib.Core.Path.{refl}
 use Prim.Native.Nat.{_+_, _*_}
-use native.Mathlib.Nat.{mul-comm}
 use native.Mathlib.Omega.{arith}
 use borrow.Author.Needs.{needs}
-use borrow.Author.Tests.{le-leb, lt-leb}
 use Rattle.pack.proofs.BytesLaws.{words-length}
-use Rattle.writer.specs.declared.write.SheetAnswer.the-variants.{NoRoom}
 use Rattle.writer.specs.Inner.{rowIn, rowsBytes}
-use Rattle.writer.proofs.WriteLaws.{rows-few}
+use Rattle.writer.proofs.WriteLaws.{rows-few, no-fits, no-short}
 use Rattle.writer.proofs.write.write_no.Statement.{statement}
 use Rattle.writer.proofs.write.write_no.Tie as tie
 
@@ -22,8 +20,7 @@ cast-t10 : tie.Need-cast-t10
 cast-t10 c = omega (arith, rows-few (c .before .before .args .n) (c .before .before .args .m) (c .before .before .pre .2))
 
 returns : tie.Need-returns
-returns c =
-    (rw (lt-leb _ _ (c .if1 .taken)) (ap NoRoom (mul-comm (c .before .before .args .n * (1 + c .before .before .args .m)) 8)), (refl, λ h. absurd (omega arith)))
+returns c = (no-short _ (c .if1 .taken), (refl, λ h. absurd (omega arith)))
 
 write-rows-requires : tie.Need-write-rows-requires
 write-rows-requires c κs =
@@ -39,7 +36,7 @@ unfolding rowsBytes
 returns-2 c =
     let a = c .before .before .before .before .before .before .args in
     let w = c .before .before .write-rows .ensures in
-    (rw (le-leb _ _ (c .before .before .before .before .if1 .left)), (rw (words-length (rowIn (a .n) (a .concepts .now) (a .links .now)) (a .n * (1 + a .m))) (w .0), λ h. w .1))
+    (no-fits _ (c .before .before .before .before .if1 .left), (rw (words-length (rowIn (a .n) (a .concepts .now) (a .links .now)) (a .n * (1 + a .m))) (w .0), λ h. w .1))
 
 pub write-no-spec : {M : Type 1} → statement M
 write-no-spec =
