@@ -198,12 +198,6 @@ lacking-bits x y hx hy j = has-and x ((2 ^ 64 - 1) - y) j ∙ go (decLt j 64)
 pub lacks-none : (a b new j : ℕ) → new ≡ 0 → has new j ≡ (has a j && not (has b j)) → has a j ≡ true → has b j ≡ true
 lacks-none a b new j e is h = not-false (has b j) (sym (is ∙ rw h) ∙ ap (λ (w : ℕ). has w j) e ∙ has-zero j)
 
--- a word without the bits of a word with one bit
-pub bit-off : (w v j r : ℕ) → v ≡ withBit 0 j → ((i : ℕ) → has r i ≡ (has w i && not (has v i))) → (i : ℕ) → has r i ≡ (has w i && not (eqb j i))
-bit-off w v j r e f i =
-    f i
-    ∙ ap (λ (t : Bool). has w i && not t) (ap (λ (x : ℕ). has x i) e ∙ has-with 0 j i ∙ ap (λ (t : Bool). t || eqb j i) (has-zero i))
-
 -- x & y, and x & !y: what it is for them to be 0
 pub meets-none : (x y : ℕ) → bitAnd x y ≡ 0 → (j : ℕ) → (has x j && has y j) ≡ false
 meets-none x y e j = sym (has-and x y j) ∙ ap (λ (w : ℕ). has w j) e ∙ has-zero j

@@ -34,9 +34,6 @@ bits-fixed p r r′ h h′ f g = has-ext 64 r r′ h h′ (λ j l. no-second (f 
 pub without-lowest-fixed : (w r r′ : ℕ) → r < 2 ^ 64 → r′ < 2 ^ 64 → ((j : ℕ) → has r j ≡ (has w j && not (eqb (lowest (has w) 0 64) j))) → ((j : ℕ) → has r′ j ≡ (has w j && not (eqb (lowest (has w) 0 64) j))) → r ≡ r′
 without-lowest-fixed w = bits-fixed (λ j. has w j && not (eqb (lowest (has w) 0 64) j))
 
-pub without-bit-fixed : (w j r r′ : ℕ) → r < 2 ^ 64 → r′ < 2 ^ 64 → ((i : ℕ) → has r i ≡ (has w i && not (eqb (j % 64) i))) → ((i : ℕ) → has r′ i ≡ (has w i && not (eqb (j % 64) i))) → r ≡ r′
-without-bit-fixed w j = bits-fixed (λ i. has w i && not (eqb (j % 64) i))
-
 pub lacking-fixed : (w v r r′ : ℕ) → r < 2 ^ 64 → r′ < 2 ^ 64 → ((j : ℕ) → has r j ≡ (has w j && not (has v j))) → ((j : ℕ) → has r′ j ≡ (has w j && not (has v j))) → r ≡ r′
 lacking-fixed w v = bits-fixed (λ j. has w j && not (has v j))
 

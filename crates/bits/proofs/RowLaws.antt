@@ -10,9 +10,6 @@ use lib.Dec.{eqb, ltb}
 use lib.Pow.{pow-pos, pow-mono}
 use borrow.Author.Tests.{eq-eqb, ne-eqb, lt-ltb, le-ltb}
 use Rattle.bits.specs.Bit.{has, withBit, row}
-use Rattle.bits.specs.Sets.{countTo}
-use Rattle.bits.proofs.SetLaws.{count-less}
-use Rattle.bits.proofs.Truth.{alike}
 use Rattle.bits.proofs.BitLaws.{has-high, has-ext, has-with}
 
 -- the word of n bits has n bits
@@ -58,11 +55,3 @@ column-on isIn column next y {v} e f g j = g j ∙ rw (f j, e) (go (decLt j y) (
     go (no a) (no b) =
         let same : y ≡ j = omega arith in
         rw (le-ltb j y (omega arith), lt-ltb j (y + 1) (omega arith), eq-eqb y j same, same) (and-true (isIn j))
-
--- a word with as many bits as one inside it is that word
-pub word-same : (w v : ℕ) → w < 2 ^ 64 → v < 2 ^ 64 → ((j : ℕ) → has w j ≡ true → has v j ≡ true) → countTo (has v) 64 ≤ countTo (has w) 64 → w ≡ v
-word-same w v hw hv up few = has-ext 64 w v hw hv (λ j l. alike (has w j) (has v j) (up j) (back j l (has w j) refl))
-  where
-    back : (j : ℕ) → j < 64 → (t : Bool) → has w j ≡ t → has v j ≡ true → t ≡ true
-    back j l true e h = refl
-    back j l false e h = absurd (omega (arith, count-less (has w) (has v) up 64 j l e h))

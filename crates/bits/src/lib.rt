@@ -20,13 +20,6 @@ pub fn with_bit(w: u64, j: usize) -> u64
     w | (1 << (j % 64))
 }
 
-// w with bit j mod 64 cleared.
-pub fn without_bit(w: u64, j: usize) -> u64
-    ensures { λ r. ⌜ ((i : ℕ) → has r i ≡ (has w i && not (eqb (j % 64) i))) ⌝ }
-{
-    lacking(w, with_bit(0, j))
-}
-
 // The bits of w that v lacks.
 pub fn lacking(w: u64, v: u64) -> u64
     ensures { λ r. ⌜ ((j : ℕ) → has r j ≡ (has w j && not (has v j))) ⌝ }

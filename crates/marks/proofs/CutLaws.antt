@@ -1,16 +1,15 @@
--- Laws of marks changed: the places below a number as a word, a range cut out, one place taken off.
-use mathlib.Core.Path.{_≡_, refl, sym, ap, _∙_, fun-ext}
+-- Laws of marks changed: the places below a number as a word, a range cut out.
+use mathlib.Core.Path.{_≡_, sym, ap, _∙_, fun-ext}
 use mathlib.Core.Bool.{Bool, true, false, not, _&&_, _||_, and-false, and-true}
 use mathlib.Core.List.{List}
-use Prim.Native.Nat.{ℕ, _+_, _-_, _*_, _/_, _%_, _^_, _≤_, _<_}
-use native.Mathlib.Decide.{ℕ-discrete, decLt}
+use Prim.Native.Nat.{ℕ, _+_, _-_, _*_, _%_, _^_, _≤_, _<_}
+use native.Mathlib.Decide.{decLt}
 use native.Mathlib.Omega.{arith}
 use lib.Bits.{bitAnd, bitOr}
-use lib.Dec.{eqb, leb, ltb}
-use lib.ListN.{length, getD, set}
+use lib.Dec.{leb, ltb}
+use lib.ListN.{length, getD}
 use lib.Pow.{pow-pos}
-use lib.Seq.{getD-set-same, getD-set-other}
-use borrow.Author.Tests.{lt-ltb, le-ltb, le-leb, lt-leb, eq-eqb, ne-eqb}
+use borrow.Author.Tests.{lt-ltb, le-ltb, le-leb, lt-leb}
 use Rattle.bits.specs.Bit.{has}
 use Rattle.bits.proofs.Truth.{both-true, never, is-no}
 use Rattle.bits.proofs.BitLaws.{has-zero, has-high, has-and, has-or, has-not-word, one-shl}
@@ -52,13 +51,10 @@ cut-bits w x y at i k small hx hy j l =
 word-mark : (ws : List ℕ) (q v j : ℕ) → j < 64 → v ≡ getD ws q 0 → has v j ≡ marked ws (q * 64 + j)
 word-mark ws q v j l e = ap (λ (w : ℕ). has w j) e ∙ sym (at-word ws (q * 64 + j) q j (omega arith) (omega arith))
 
--- so a cut word, and a word without another's bits, has the marks of its places
+-- so a cut word has the marks of its places
 pub cut-mark : (ws : List ℕ) (q w v i k : ℕ) → v ≡ getD ws q 0 → ((j : ℕ) → j < 64 → has w j ≡ (has v j && not (leb i (q * 64 + j) && ltb (q * 64 + j) k))) → (j : ℕ) → j < 64 → has w j ≡ cutOut (marked ws) i k (q * 64 + j)
 unfolding cutOut
 cut-mark ws q w v i k e bits j l = bits j l ∙ ap (λ (t : Bool). t && not (leb i (q * 64 + j) && ltb (q * 64 + j) k)) (word-mark ws q v j l e)
-
-pub without-mark : (ws vs : List ℕ) (q w v u : ℕ) → v ≡ getD ws q 0 → u ≡ getD vs q 0 → ((j : ℕ) → has w j ≡ (has v j && not (has u j))) → (j : ℕ) → j < 64 → has w j ≡ (marked ws (q * 64 + j) && not (marked vs (q * 64 + j)))
-without-mark ws vs q w v u e f bits j l = bits j ∙ rw (word-mark ws q v j l e, word-mark vs q u j l f)
 
 module _ (P : ℕ → Bool) (i k : ℕ) where
   -- outside the range all is as it was; inside it nothing is left
@@ -92,32 +88,3 @@ cut-marked ws i k l = fun-ext (λ j. go j (decLt j 1024))
 -- with no range cut out they mark what they did
 pub copy-marked : (ws copy : List ℕ) → length ws ≡ 16 → copy ≡ marksOf (cutOut (marked ws) 0 0) → marked copy ≡ marked ws
 copy-marked ws copy l e = ap marked e ∙ cut-marked ws 0 0 l ∙ fun-ext (λ j. cut-after (marked ws) 0 0 j (omega arith))
-
-module _ (ws : List ℕ) (i : ℕ) (h : i / 64 < length ws) where
-  -- PLACE i TAKEN OFF, and no other place touched
-  pub place-off : (w : ℕ) → ((b : ℕ) → has w b ≡ (has (getD ws (i / 64) 0) b && not (eqb (i % 64) b))) → (k : ℕ) → marked (set ws (i / 64) w) k ≡ (marked ws k && not (eqb i k))
-  place-off w bits k = go (ℕ-discrete (k / 64) (i / 64))
-    where
-      same : k / 64 ≡ i / 64 → Dec (i % 64 ≡ k % 64) → eqb (i % 64) (k % 64) ≡ eqb i k
-      same e (yes f) = eq-eqb (i % 64) (k % 64) f ∙ sym (eq-eqb i k (omega arith))
-      same e (no f) = ne-eqb (i % 64) (k % 64) f ∙ sym (ne-eqb i k (λ z. f (ap (λ (x : ℕ). x % 64) z)))
-
-      go : Dec (k / 64 ≡ i / 64) → marked (set ws (i / 64) w) k ≡ (marked ws k && not (eqb i k))
-      go (yes e) =
-          at-word (set ws (i / 64) w) k (i / 64) (k % 64) e refl
-          ∙ ap (λ (v : ℕ). has v (k % 64)) (getD-set-same ws (i / 64) w 0 h)
-          ∙ bits (k % 64)
-          ∙ rw (at-word ws k (i / 64) (k % 64) e refl, same e (ℕ-discrete (i % 64) (k % 64)))
-      go (no e) =
-          at-word (set ws (i / 64) w) k (k / 64) (k % 64) refl refl
-          ∙ ap (λ (v : ℕ). has v (k % 64)) (getD-set-other ws (i / 64) (k / 64) w 0 e)
-          ∙ sym (at-word ws k (k / 64) (k % 64) refl refl)
-          ∙ rw (ne-eqb i k (λ z. e (ap (λ (x : ℕ). x / 64) (sym z)))) (sym (and-true (marked ws k)))
-
--- a place past the words is not marked, so nothing is to be done
-pub none-off : (ws : List ℕ) (i : ℕ) → length ws ≤ i / 64 → (k : ℕ) → marked ws k ≡ (marked ws k && not (eqb i k))
-none-off ws i h k = go (ℕ-discrete i k)
-  where
-    go : Dec (i ≡ k) → marked ws k ≡ (marked ws k && not (eqb i k))
-    go (yes e) = rw (← e, unmarked-past ws i h)
-    go (no e) = rw (ne-eqb i k e) (sym (and-true (marked ws k)))

@@ -1,8 +1,8 @@
-// Marks changed, a word at a time: without a range of places, without those of other marks, without one place; and copied.
+// Marks changed, a word at a time: without a range of places; and copied.
 ghost use mathlib.Core.Path.{_≡_};
 ghost use mathlib.Core.Bool.{not, _&&_};
 ghost use Prim.Native.Nat.{ℕ, _+_, _^_, _<_};
-ghost use lib.Dec.{eqb, leb, ltb};
+ghost use lib.Dec.{leb, ltb};
 ghost use lib.ListN.{length};
 ghost use Rattle.bits.specs.Bit.{has};
 ghost use Rattle.marks.specs.Marks.{marked, marksOf, cutOut};
@@ -43,31 +43,6 @@ pub fn cut_marks(marks: &[u64], i: usize, k: usize) -> [u64; 16]
         j += 1;
     }
     words
-}
-
-// The marks but for the places of others.
-pub fn marks_without<'a>(marks: &'a [u64], others: &'a [u64]) -> [u64; 16]
-    ensures { λ r. ⌜ r ≡ marksOf (λ i. marked (now (marks .entry)) i && not (marked (now (others .entry)) i)) ⌝ }
-{
-    let mut words = [0u64; 16];
-    let mut j = 0;
-    while j < 16 {
-        let w = bits::lacking(mark_word(marks, j), mark_word(others, j));
-        words[j] = w;
-        j += 1;
-    }
-    words
-}
-
-// Place i no longer marked.
-pub fn unmark(marks: &mut [u64], i: usize)
-    ensures { λ _. ⌜ (length (now (marks .exit)) ≡ length (now (marks .entry))) × ((k : ℕ) → marked (now (marks .exit)) k ≡ (marked (now (marks .entry)) k && not (eqb i k))) ⌝ }
-{
-    let at = i / 64;
-    if at < marks.len() {
-        let w = bits::without_bit(marks[at], i);
-        marks[at] = w;
-    }
 }
 
 // The 16 words of marks into lent ones.

@@ -1,4 +1,4 @@
--- What inner functions promise to each other. No public promise cites this page.
+-- What inner functions promise to each other. Only functions that docs/PROMISES.md lists as inner cite this page.
 use mathlib.Core.Path.{_≡_}
 use mathlib.Core.Bool.{false, _&&_}
 use mathlib.Core.List.{List}

@@ -1,4 +1,4 @@
--- What inner functions promise to each other: where the next place is that is kept. No public promise cites this page.
+-- What inner functions promise to each other: where the next place is that is kept. Only functions that docs/PROMISES.md lists as inner cite this page.
 use mathlib.Core.Bool.{Bool}
 use Prim.Native.Nat.{ℕ, _+_, _≤_, _<_}
 use Rattle.marks.specs.Marks.{cutOut}

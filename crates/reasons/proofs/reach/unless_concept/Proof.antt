@@ -1,6 +1,5 @@
 -- `unless_concept`: below 64 a bit is the one at its number (`low`, `mod-eq-of-lt`).
-use mathlib.Core.Path.{sym, ap, _∙_}
-use native.Mathlib.Nat.{mod-eq-of-lt}
+use mathlib.Core.Path.{sym, _∙_}
 use native.Mathlib.Omega.{arith}
 use Rattle.bits.proofs.BitLaws.{low}
 use borrow.Author.Needs.{needs}

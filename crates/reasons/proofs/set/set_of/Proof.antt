@@ -1,6 +1,5 @@
 -- `set_of`: for a equal to b no record is needed (`same-words`); else the goal follows from the module
 -- (`inside-follows`), and what is picked from the module is the printed set (`inside-set`).
-use borrow.Author.Needs.{needs}
 use Rattle.reasons.proofs.AnswerLaws.{same-words, inside-taken, inside-words, inside-follows, inside-set}
 use Rattle.reasons.proofs.set.set_of.Statement.{statement}
 use Rattle.reasons.proofs.set.set_of.Tie as tie
