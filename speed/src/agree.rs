@@ -3,7 +3,7 @@
 use crate::inputs::{OUT, ROOM};
 use crate::pairs::{self, Pair};
 use crate::progress::Progress;
-use noolukask_tests::packs;
+use noolukask_tests::packs::{self, Shape};
 use noolukask_tests::rng::Rng;
 use noolukask_tests::rules::{show, Question};
 
@@ -60,10 +60,10 @@ pub fn assert_alike(rng: &mut Rng, progress: &mut Progress) {
         question(rng, &q);
         progress.go_on(what, turn);
     }
-    for shape in 0..40 {
-        let q = packs::large_question(rng, shape);
+    for turn in 0..40 {
+        let q = packs::large_question(rng, Shape::at(turn));
         question(rng, &q);
-        progress.go_on(what, 1000 + shape as u32);
+        progress.go_on(what, 1000 + turn as u32);
     }
     progress.clear();
 }
