@@ -40,6 +40,7 @@ fn question(rng: &mut Rng, q: &Question) {
     let parts = if back % 256 == 0 { back / 512 } else { 0 };
     checks(rng, q, &sheet[..8 * parts as usize]);
     same(pairs::MODULE, q, &[0; OUT]);
+    same(pairs::MODULE_BY_PASSES, q, &[0; OUT]);
     same(pairs::SET, q, &[0; OUT]);
     if q.pack.len() <= 8 * 170 {
         same(pairs::SET_BY_DELETION, q, &[0; OUT]);

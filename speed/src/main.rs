@@ -14,7 +14,7 @@ mod progress;
 mod reasons;
 mod table;
 
-use clock::{least, Trial};
+use clock::{least, Least, Trial};
 use concepts::Columns;
 use engine::Engine;
 use inputs::{Inputs, OUT, ROOM};
@@ -36,12 +36,24 @@ const NATIVE: &str = "Least processor time on x86-64.";
 const EMULATED: &str = "EMULATED: both ran under one emulator of x86-64; no times of this machine.";
 const METHOD: &str = "\
 The last column has the turns and, where a turn is of several calls, how many. Buffers are warm and not cleared
-between calls. n = 64 and m = 8 where a row says nothing else. A ratio in bold is above what is wanted.
-";
+between calls. n = 64 and m = 8 where a row says nothing else. A ratio in bold is above what is wanted.";
+
+/// Before the second table.
+const FASTER: &str = "\
+The same calls against Rust by faster methods: a column of bits for each concept beside the rows, by which kinds 1 and
+2 are one word for all X; a no check that passes over a thing to which a chain can add nothing; records read once for
+the module; sets by halving over that engine.";
+
+/// What is measured against a faster method, for the second table.
+struct Faster {
+    what: String,
+    least: Least,
+}
 
 struct Bench {
     table: Table,
     progress: Progress,
+    faster: Vec<Faster>,
 }
 
 impl Bench {
@@ -52,35 +64,44 @@ impl Bench {
         least.back
     }
 
+    /// A row of the second table.
+    fn faster(&mut self, trial: Trial) {
+        let least = least(&trial, &mut self.progress);
+        self.faster.push(Faster { what: trial.what.into(), least });
+    }
+
     /// A check that accepts.
     fn check(&mut self, what: &str, pair: Pair, (question, sheet): &(Question, Vec<u8>)) {
         let back = self.row(TWICE, Trial { what, pair, questions: from_ref(question), buffer: sheet });
         assert_eq!(back, 0, "{what}");
     }
 
-    /// Two rows: against Rust with columns of concepts, and with rows of them as ours has.
-    fn both_tables(&mut self, what: &str, wanted: Option<f64>, pairs: [Pair; 2], question: &Question, room: usize) {
-        let rows = format!("{what}; Rust by rows too");
-        for (what, pair) in [what, &rows].into_iter().zip(pairs) {
-            self.row(wanted, Trial { what, pair, questions: from_ref(question), buffer: &vec![0; room] });
-        }
+    /// Against Rust by rows of concepts, as ours has them, and by columns.
+    fn passes(&mut self, what: &str, wanted: Option<f64>, [rows, columns]: [Pair; 2], q: &Question, room: usize) {
+        let (questions, buffer) = (from_ref(q), &vec![0; room]);
+        self.row(wanted, Trial { what, pair: rows, questions, buffer });
+        self.faster(Trial { what, pair: columns, questions, buffer });
     }
 
     fn verdict(&mut self, what: &str, wanted: Option<f64>, q: &Question) {
         let what = format!("verdict, {what}{}", run(q));
-        self.both_tables(&what, wanted, [pairs::VERDICT, pairs::VERDICT_BY_ROWS], q, 0);
+        self.passes(&what, wanted, [pairs::VERDICT_BY_ROWS, pairs::VERDICT], q, 0);
     }
 
     fn sheet(&mut self, what: &str, q: &Question) {
         let what = format!("our {what}{}", run(q));
-        self.both_tables(&what, TWICE, [pairs::SHEET, pairs::SHEET_BY_ROWS], q, ROOM);
+        self.passes(&what, TWICE, [pairs::SHEET_BY_ROWS, pairs::SHEET], q, ROOM);
     }
 
     /// A call that gives reasons; how many records it finds stands in the row.
     fn reasons(&mut self, what: &str, wanted: Option<f64>, pair: Pair, q: &Question) {
-        let found = (pair.ours)(q, &mut [0; OUT]) / 256;
-        let what = &what.replace('#', &thousands(found));
+        let what = &with_count(what, pair, q);
         self.row(wanted, Trial { what, pair, questions: from_ref(q), buffer: &[0; OUT] });
+    }
+
+    fn faster_reasons(&mut self, what: &str, pair: Pair, q: &Question) {
+        let what = &with_count(what, pair, q);
+        self.faster(Trial { what, pair, questions: from_ref(q), buffer: &[0; OUT] });
     }
 
     /// How many completions a printed set takes by halving, and how many are wanted at most.
@@ -91,6 +112,12 @@ impl Bench {
         let wanted = format!("({kept} + 1) · ({log} + 2) = {most}");
         self.table.line(&format!("Completions of a set by halving, {what}: {asked}; wanted: at most {wanted}."));
     }
+}
+
+/// The name of a row with the number of records that the call finds.
+fn with_count(what: &str, pair: Pair, q: &Question) -> String {
+    let found = (pair.ours)(q, &mut [0; OUT]) / 256;
+    what.replace('#', &thousands(found))
 }
 
 /// Passes and facts of the Rust engine, up to the goal or to the end.
@@ -107,9 +134,9 @@ fn measure_checks(bench: &mut Bench, inputs: &Inputs) {
     assert_eq!(back, 256 * 1024, "{what}");
     bench.check("yes check, 36,000 steps", pairs::YES, &inputs.yes);
     for (links, input) in [("half the links", &inputs.staircase), ("all links", &inputs.full)] {
-        let what = format!("no check, 64 things, 400 chains, {links}");
-        bench.check(&what, pairs::NO, input);
-        bench.check(&format!("{what}; Rust walks every chain too"), pairs::NO_WALKED, input);
+        let what = &format!("no check, 64 things, 400 chains, {links}");
+        bench.check(what, pairs::NO_WALKED, input);
+        bench.faster(Trial { what, pair: pairs::NO, questions: from_ref(&input.0), buffer: &input.1 });
     }
 }
 
@@ -124,21 +151,35 @@ fn measure_engines(bench: &mut Bench, inputs: &Inputs) {
 }
 
 fn measure_reasons(bench: &mut Bench, inputs: &Inputs) {
-    bench.reasons("module, 1,024 mixed records, # in it", HALF_MORE, pairs::MODULE, &inputs.staged);
-    bench.reasons("module, 63 records in reverse (m = 0), # in it", HALF_MORE, pairs::MODULE, &runs::reverse(64));
-    let (deletion, ours) = ("; Rust by deletion", "; deletion by our verdict");
-    let set = "printed set, 1,024 mixed records, # kept";
-    bench.reasons(set, None, pairs::SET, &inputs.staged);
-    bench.reasons(&format!("{set}{deletion}"), None, pairs::SET_BY_DELETION, &inputs.staged);
-    bench.reasons(&format!("{set}{ours}"), Some(0.5), pairs::SET_BY_VERDICTS, &inputs.staged);
-    let set = "printed set, 120 SNOMED-like records (n = 62, m = 3), # kept";
-    bench.reasons(set, None, pairs::SET, &inputs.snomed);
-    bench.reasons(&format!("{set}{deletion}"), HALF_MORE, pairs::SET_BY_DELETION, &inputs.snomed);
+    let reverse = runs::reverse(64);
+    for (records, q) in [("1,024 mixed records", &inputs.staged), ("63 records in reverse (m = 0)", &reverse)] {
+        let module = format!("module, {records}, # in it");
+        bench.reasons(&module, HALF_MORE, pairs::MODULE_BY_PASSES, q);
+        bench.faster_reasons(&module, pairs::MODULE, q);
+    }
+    let mixed = "printed set, 1,024 mixed records, # kept";
+    let snomed = "printed set, 120 SNOMED-like records (n = 62, m = 3), # kept";
+    bench.reasons(&format!("{mixed}, against deletion"), None, pairs::SET_BY_DELETION, &inputs.staged);
+    let ours = format!("{mixed}, against deletion by our verdict");
+    bench.reasons(&ours, Some(0.5), pairs::SET_BY_VERDICTS, &inputs.staged);
+    bench.reasons(&format!("{snomed}, against deletion"), HALF_MORE, pairs::SET_BY_DELETION, &inputs.snomed);
+    bench.faster_reasons(mixed, pairs::SET, &inputs.staged);
+    bench.faster_reasons(snomed, pairs::SET, &inputs.snomed);
+}
+
+/// The second table.
+fn print_faster(bench: &mut Bench) {
+    bench.table.line("");
+    bench.table.line(FASTER);
+    bench.table.head();
+    for Faster { what, least } in std::mem::take(&mut bench.faster) {
+        bench.table.row(&what, &least, None);
+    }
 }
 
 /// Verdicts on these questions, by x: a line for each of us, in microseconds.
 fn verdict_lines(bench: &mut Bench, questions: impl Iterator<Item = (usize, Question)>) -> Vec<plot::Series> {
-    let mut lines = ["ours", "Rust", "Rust by rows too"].map(|name| plot::Series { name, points: Vec::new() });
+    let mut lines = ["ours", "Rust by columns", "Rust by rows"].map(|name| plot::Series { name, points: Vec::new() });
     for (x, question) in questions {
         let what = format!("plotting verdicts, {x}");
         let mut time = |pair| {
@@ -187,7 +228,7 @@ fn main() {
     let emulated = words.next().expect("emulated or native") == "emulated";
     let folder = words.next().expect("a folder");
     let folder = Path::new(&folder);
-    let mut bench = Bench { table: Table::new(emulated), progress: Progress::new() };
+    let mut bench = Bench { table: Table::new(emulated), progress: Progress::new(), faster: Vec::new() };
     agree::assert_alike(&mut Rng::new(1), &mut bench.progress);
     let mut rng = Rng::new(36);
     let inputs = Inputs::drawn(&mut rng);
@@ -200,6 +241,7 @@ fn main() {
     bench.table.line("");
     bench.completions("1,024 mixed records", &inputs.staged);
     bench.completions("120 SNOMED-like records", &inputs.snomed);
+    print_faster(&mut bench);
     std::fs::write(folder.join("speed.md"), bench.table.text()).expect("the table can be written");
     let drawn = plot::svg(if emulated { EMULATED } else { NATIVE }, &plots(&mut bench, &mut rng));
     bench.progress.clear();

@@ -23,6 +23,8 @@ pub const VERDICT: Pair = Pair { ours: ours::verdict, rust: |q, _| engine::verdi
 pub const VERDICT_BY_ROWS: Pair = Pair { ours: ours::verdict, rust: |q, _| engine::verdict::<Rows>(q) };
 pub const SHEET: Pair = Pair { ours: ours::write_sheet, rust: engine::write_sheet::<Columns> };
 pub const SHEET_BY_ROWS: Pair = Pair { ours: ours::write_sheet, rust: engine::write_sheet::<Rows> };
+/// Rust reads a record whenever a pass comes to it.
+pub const MODULE_BY_PASSES: Pair = Pair { ours: ours::module, rust: reasons::module_by_passes };
 pub const MODULE: Pair = Pair { ours: ours::module, rust: reasons::module };
 pub const SET: Pair = Pair { ours: ours::printed_set, rust: reasons::set_by_halving };
 /// Rust deletes record by record.

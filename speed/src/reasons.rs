@@ -50,6 +50,28 @@ fn module_of(pack: &[u8], marks: &MarkWords, a: u64) -> MarkWords {
     }
 }
 
+/// The module: over and over through the records that wait still, each read from the pack whenever it is come to.
+fn module_by_passes_of(pack: &[u8], marks: &MarkWords, a: u64) -> MarkWords {
+    let (mut rest, mut inside) = (*marks, [0; 16]);
+    let mut names = 1u128 << a;
+    loop {
+        let before = names;
+        for (i, (rest, inside)) in rest.iter_mut().zip(&mut inside).enumerate() {
+            each_bit(*rest, |index| {
+                let record = waiting(64 * i + index, fields(pack, 64 * i + index));
+                if record.left & !names == 0 {
+                    names |= record.right;
+                    *inside |= 1 << index;
+                }
+            });
+            *rest &= !*inside;
+        }
+        if names == before {
+            return inside;
+        }
+    }
+}
+
 /// The marked places, ascending.
 fn places(marks: &MarkWords) -> Vec<usize> {
     let mut places = Vec::with_capacity(1024);
@@ -67,13 +89,21 @@ fn give(words: &MarkWords, out: &mut [u8]) -> u64 {
     256 * words.iter().map(|word| u64::from(word.count_ones())).sum::<u64>()
 }
 
-/// What the module call returns and leaves.
-pub fn module(q: &Question, out: &mut [u8]) -> u64 {
+/// What the module call returns and leaves, with the module found this way.
+fn told(q: &Question, out: &mut [u8], find: fn(&[u8], &MarkWords, u64) -> MarkWords) -> u64 {
     match marked(q) {
-        Ok((_, marks)) if q.a < q.n => give(&module_of(&q.pack, &marks, q.a), out),
+        Ok((_, marks)) if q.a < q.n => give(&find(&q.pack, &marks, q.a), out),
         Ok(_) => 5,
         Err(back) => desk_code(back),
     }
+}
+
+pub fn module(q: &Question, out: &mut [u8]) -> u64 {
+    told(q, out, module_of)
+}
+
+pub fn module_by_passes(q: &Question, out: &mut [u8]) -> u64 {
+    told(q, out, module_by_passes_of)
 }
 
 /// Whether the goal follows from marks.

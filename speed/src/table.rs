@@ -31,6 +31,7 @@ impl Table {
     }
 
     pub fn head(&mut self) {
+        self.line("");
         let mark = if self.emulated { " (emulated)" } else { "" };
         self.line(&format!("| What | Ours, µs{mark} | Rust, µs{mark} | Ratio{mark} | Wanted | Turns |"));
         self.line("|---|---|---|---|---|---|");
