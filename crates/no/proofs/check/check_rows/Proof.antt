@@ -1,11 +1,12 @@
 -- `check_rows`: ROW at the lowest forbidden row; with none (`all-rows`) the lines fit the rows (`lines-fit`).
+use Prim.Native.Nat.{_≤_, _<_}
 use native.Mathlib.Omega.{arith}
 use borrow.Author.Needs.{needs}
 use borrow.Author.Tests.{lt-ltb, le-ltb}
 use Rattle.pack.specs.Record.{linesOf}
 use Rattle.pack.proofs.RecordLaws.{lines-valid}
 use Rattle.pack.proofs.QuestionLaws.{asked}
-use Rattle.no.specs.NoSheet.{checkRows}
+use Rattle.no.specs.NoSheet.{rowsOf, checkRows}
 use Rattle.no.proofs.NoLaws.{rows-few, things-fit, lines-fit, all-rows}
 use Rattle.no.proofs.check.check_rows.Statement.{statement}
 use Rattle.no.proofs.check.check_rows.Tie as tie
@@ -18,7 +19,10 @@ cast-t13 c = omega (arith, rows-few (c .before .before .before .before .before .
 
 returns : tie.Need-returns
 unfolding checkRows
-returns c = rw (← c .before .lowest-forbidden .ensures, lt-ltb _ _ (c .if1 .taken))
+returns c =
+    let a = c .before .before .before .before .before .args in
+    let there : c .before .lowest-forbidden .result < rowsOf (a .m) (a .k) = c .if1 .taken in
+    rw (← c .before .lowest-forbidden .ensures, lt-ltb _ _ there)
 
 cast-check-world : tie.Need-cast-check-world
 cast-check-world c = omega (arith, asked _ _ _ _ _ _ (c .before .before .before .before .before .pre .0 .1) .pack .n-most, asked _ _ _ _ _ _ (c .before .before .before .before .before .pre .0 .1) .goalA)
@@ -41,7 +45,10 @@ check-world-requires c κs =
 
 returns-2 : tie.Need-returns-2
 unfolding checkRows
-returns-2 c = rw (← c .before .before .lowest-forbidden .ensures, le-ltb _ _ (c .before .if1 .left)) (c .check-world .ensures)
+returns-2 c =
+    let a = c .before .before .before .before .before .before .args in
+    let past : rowsOf (a .m) (a .k) ≤ c .before .before .lowest-forbidden .result = c .before .if1 .left in
+    rw (← c .before .before .lowest-forbidden .ensures, le-ltb _ _ past) (c .check-world .ensures)
 
 pub check-rows-spec : {M : Type 1} → statement M
 check-rows-spec =
