@@ -4,7 +4,7 @@ SHELL = bash
 LIBRARIES = sheets desk
 ARCHIVES = $(LIBRARIES:%=target/staticlib/lib%.a)
 SOURCES = crates.txt $(shell find crates -name must-fail -prune -o -type f -print)
-# Sets CC, CARGO, RUN and EMULATED for the rest of a recipe's line.
+# Sets CC, CARGO, RUN and EMULATED for the rest of a recipe's line; after it come the programs that the line needs.
 PLATFORM = . tools/platform
 
 .PHONY: test run speed clean
@@ -20,12 +20,12 @@ run: target/bin/bench build/desk
 
 speed: $(ARCHIVES)
 	@mkdir -p build
-	@$(PLATFORM) && echo "building the measurements .." >&2 && \
+	@$(PLATFORM) gcc cargo && echo "building the measurements .." >&2 && \
 		"$$CARGO" run --quiet --offline --release --manifest-path speed/Cargo.toml -- "$${EMULATED:-native}" build
 
 build/desk: examples/desk.c examples/guarded.h include/noolukask.h $(ARCHIVES)
 	@mkdir -p build
-	@$(PLATFORM) && set -x && "$$CC" -O2 -Wall -Wextra -Werror -Iinclude -Iexamples examples/desk.c $(ARCHIVES) -o $@
+	@$(PLATFORM) gcc && set -x && "$$CC" -O2 -Wall -Wextra -Werror -Iinclude -Iexamples examples/desk.c $(ARCHIVES) -o $@
 
 target/staticlib/lib%.a: $(SOURCES)
 	rt staticlib $*

@@ -94,7 +94,11 @@ uint64_t noolukask_write_sheet(uint64_t n, uint64_t m,
                                uint64_t a, uint64_t b,
                                uint8_t *sheet, size_t sheet_len);
 
-/* The module for concept a: the marked records that any reason for "a under .." can use.
+/* The module for concept a, by names; concepts and roles are names, and those before
+ * "under" are a record's left side. Take the smallest set of names that holds a and, with
+ * all left-side names of a marked record, its right-side names: the module is the marked
+ * records whose left-side names all lie in it. It holds every set of marked records from
+ * which "a under .." follows and that can lose no record, and may hold more.
  * Numbers 1 to 5, MARKS also for out that is not 128 bytes; else all 128 bytes of out
  * are set to the marks of the module, as marks has them, and the value is the number of
  * records that they mark. What out held before is not judged. Where a number of the
@@ -125,10 +129,10 @@ uint64_t noolukask_printed_set(uint64_t n, uint64_t m,
  */
 
 /* A yes sheet is 0 to 65,536 steps of 8 bytes: a record's place (two bytes,
- * little-endian), X, Y, Z, three zeros. Kinds 1 to 3 use X, kinds 4 and 5 X and Y,
- * kind 6 all three; an unused one is 0. Each step draws one conclusion with a marked
- * record; "X in X" is free, and every other premise must be the conclusion of an
- * earlier step:
+ * little-endian), X, Y, Z, three zeros. Steps count from 0. Kinds 1 to 3 use X, kinds 4
+ * and 5 X and Y, kind 6 all three; a used one is below n, an unused one is 0. Each step
+ * draws one conclusion with a marked record; "X in X" is free, and every other premise
+ * must be the conclusion of an earlier step:
  *   1  X in A gives X in B              4  X r Y and Y in A give X in B
  *   2  X in A1 and A2 gives X in B      5  X r Y gives X s Y
  *   3  X in A gives X r B               6  X r Y and Y s Z give X t Z

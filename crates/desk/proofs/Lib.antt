@@ -1,5 +1,5 @@
--- That the promises fix their results; out marks for C.
-pub mod Promises
-pub mod UnreadLaws
+-- The numbers that C gets; marks in and out as bytes; what C may conclude; that the promises fix their results.
+pub mod CodeLaws
 pub mod MarksLaws
+pub mod Promises
 pub mod CallsRight

@@ -1,97 +1,133 @@
--- Laws of out marks for C: their bytes handed back as marks in, and the answers of the module and of the set.
-use mathlib.Core.Path.{_≡_, refl, sym, ap, _∙_}
-use mathlib.Core.List.{List}
-use Prim.Native.Nat.{ℕ}
+-- Laws of marks in and out as bytes: where they are not 128, the answer is that of the question without words; where they are, what
+-- the words give the bytes give.
+use mathlib.Core.Path.{_≡_, refl, ap, _∙_}
+use mathlib.Core.Bool.{Bool, true, false, cond, not, _&&_, _||_, and-false}
+use mathlib.Core.List.{List, [], _∷_, _++_}
+use Prim.Native.Nat.{ℕ, _/_, _%_, _<_}
+use native.Mathlib.Omega.{arith}
+use lib.Dec.{eqb}
 use lib.ListN.{length}
-use borrow.Author.Tests.{eq-eqb}
-use Rattle.bits.proofs.ListLaws.{listed-length}
-use Rattle.marks.specs.Marks.{marksOf}
-use Rattle.marks.proofs.WordLaws.{marks-length, marks-small}
+use borrow.Author.Tests.{eqb-true, eq-eqb, ne-eqb}
+use Rattle.bits.proofs.Truth.{never, clash}
+use Rattle.marks.specs.Marks.{marksFit}
 use Rattle.pack.specs.declared.check.Checked.{Checked}
 use Rattle.pack.specs.declared.check.Checked.the-variants.{Refused, Count}
-use Rattle.pack.specs.Answers.{checkedNumber, checkedValue}
-use Rattle.pack.specs.Bytes.{wordIn, part, wordsIn, wordsBytes, marksIn}
-use Rattle.pack.specs.Question.{counted, Taken}
+use Rattle.pack.specs.declared.check.Refusal.{Refusal}
+use Rattle.pack.specs.Bytes.{wordsIn, wordsBytes, marksIn}
+use Rattle.pack.specs.Computed.{checkPack, afterPack, checkQuestion, refusalNumber, refusalPlace, checkedNumber, checkedValue}
+use Rattle.pack.specs.Question.{counted, askedRows, GivesQuestion}
+use Rattle.pack.specs.Record.{linesOf, recordCount}
+use Rattle.pack.specs.Table.{Row, refuse, Given}
 use Rattle.pack.specs.World.{Follows}
-use Rattle.pack.specs.Record.{linesOf}
-use Rattle.pack.proofs.BytesLaws.{words-back}
+use Rattle.pack.proofs.GivenLaws.{given-map, given-after}
+use Rattle.pack.proofs.Promises.{question-numbered, asked-given, question-given}
+use Rattle.pack.proofs.QuestionLaws.{asked}
+use Rattle.passes.specs.Passes.{finished}
+use Rattle.engine.specs.Verdict.{GivesVerdict}
+use Rattle.engine.proofs.Promises.{verdict-refused}
+use Rattle.writer.specs.Sheet.{GivesSheet}
+use Rattle.writer.proofs.Promises.{sheet-refused}
 use Rattle.reasons.specs.declared.set.SetAnswer.{SetAnswer}
-use Rattle.reasons.specs.declared.set.SetAnswer.the-variants as sets
-use Rattle.reasons.specs.Computed.{moduleOf, printed}
-use Rattle.reasons.specs.Module.{moduleMarks, moduleOut, askModule, writtenModule}
-use Rattle.reasons.specs.Set.{setNumber, setValue, setMarks, setOut, askSet, writtenSet}
-use Rattle.reasons.proofs.ModuleLaws.{MarksModule, module-written, module-right, module-length}
-use Rattle.reasons.proofs.AnswerLaws.{set-length}
-use Rattle.reasons.proofs.SetRight.{MarksSet, set-found, set-printed}
-use Rattle.desk.specs.Desk.{deskCode, checkedCode, setCodeOf, askModuleC, moduleCode, moduleBytes, setCode, setBytes}
+use Rattle.reasons.specs.OutMarks.{reasonRows}
+use Rattle.reasons.specs.Module.{MarksModule, GivesModule}
+use Rattle.reasons.specs.Set.{MarksSet, setRows, GivesSet}
+use Rattle.reasons.specs.Computed.{setNumber, setValue}
+use Rattle.reasons.proofs.Promises.{set-numbered}
+use Rattle.desk.specs.Desk.{deskCode, GivesModuleC, GivesSetC}
+use Rattle.desk.specs.Inner.{PutFound}
+use Rattle.desk.proofs.CodeLaws.{refusal-small, checked-small, set-small, coded}
 
--- bytes of the right length are 16 words
-read-length : (out : List ℕ) → length out ≡ 128 → length (marksIn out) ≡ 16
-unfolding wordsIn
-read-length out h = rw (eq-eqb (length out) 128 h) (listed-length (λ j. wordIn (part out j)) 16 0)
+-- bytes of another length are no words
+no-words : (marks : List ℕ) → (length marks ≡ 128 → ⊥) → marksIn marks ≡ []
+no-words marks d = rw (ne-eqb (length marks) 128 d)
 
--- OF A CALL WITH OUT MARKS, whose answer goes by their length alone: what it makes of 16 words of any content is what it makes of the bytes
-module _ {A : Type 0} (outOf : A → List ℕ → List ℕ → List ℕ) (again : (t : A) (ours blank after : List ℕ) → outOf t (wordsBytes (outOf t ours blank)) after ≡ outOf t (wordsBytes ours) after) (number value : A → ℕ)
-    (ask : List ℕ → List ℕ → A) (ours : List ℕ → List ℕ) (same-length : (ws out out′ : List ℕ) → length out ≡ length out′ → ask ws out ≡ ask ws out′) (marks out : List ℕ) where
-  call-read : {r : ℕ} {answer : A} {after found : List ℕ} (blank : List ℕ) → length marks ≡ 128 → length out ≡ 128 → length blank ≡ 16
-      → answer ≡ ask (wordsIn marks) blank → found ≡ outOf (ask (wordsIn marks) blank) (ours (wordsIn marks)) blank
-      → r ≡ deskCode (number answer) (value answer) → after ≡ outOf answer (wordsBytes found) out
-      → (r ≡ deskCode (number (ask (marksIn marks) (marksIn out))) (value (ask (marksIn marks) (marksIn out)))) × (after ≡ outOf (ask (marksIn marks) (marksIn out)) (wordsBytes (ours (marksIn marks))) out)
-  call-read {r} {answer} {after} {found} blank hm ho hb e f g h =
-      let words : marksIn marks ≡ wordsIn marks = rw (eq-eqb (length marks) 128 hm) in
-      let same : answer ≡ ask (marksIn marks) (marksIn out) = e ∙ same-length (wordsIn marks) blank (marksIn out) (hb ∙ sym (read-length out ho)) ∙ ap (λ (ws : List ℕ). ask ws (marksIn out)) (sym words) in (
-        g ∙ ap (λ (t : A). deskCode (number t) (value t)) same,
-        h
-            ∙ ap (λ (l : List ℕ). outOf answer (wordsBytes l) out) (f ∙ ap (λ (t : A). outOf t (ours (wordsIn marks)) blank) (sym e))
-            ∙ again answer (ours (wordsIn marks)) blank out
-            ∙ ap (λ (t : A). outOf t (wordsBytes (ours (wordsIn marks))) out) same
-            ∙ ap (λ (ws : List ℕ). outOf (ask (marksIn marks) (marksIn out)) (wordsBytes (ours ws)) out) (sym words),
-      )
+-- no words fit no pack
+unread-refused : (n m : ℕ) (s : List ℕ) (a b : ℕ) → (why : Refusal) × (checkQuestion n m s [] a b ≡ Refused why)
+unread-refused n m s a b = go (checkQuestion n m s [] a b) refl
+  where
+    go : (r : Checked) → checkQuestion n m s [] a b ≡ r → (why : Refusal) × (checkQuestion n m s [] a b ≡ Refused why)
+    go (Refused why) e = (why, e)
+    go (Count k) e = absurd (let six = asked n m s [] a b e .marks .sixteen in omega arith)
 
-module _ (n m : ℕ) (s marks : List ℕ) (a : ℕ) (out : List ℕ) where
-  -- THE MODULE FROM ITS WORDS, found in 16 words of any content
-  pub module-read : {r : ℕ} {answer : Checked} {after found : List ℕ} (blank : List ℕ) → length marks ≡ 128 → length out ≡ 128 → length blank ≡ 16
-      → answer ≡ askModule n m s (wordsIn marks) a blank → found ≡ writtenModule n m s (wordsIn marks) a blank
-      → r ≡ checkedCode answer → after ≡ moduleOut answer (wordsBytes found) out
-      → (r ≡ moduleCode n m s marks a out) × (after ≡ moduleBytes n m s marks a out)
-  unfolding moduleCode moduleBytes writtenModule
-  module-read =
-      call-read moduleOut again checkedNumber checkedValue (λ ws. askModule n m s ws a) (λ ws. moduleMarks n m s ws a) (λ ws. module-length n m s ws a) marks out
-    where
-      again : (t : Checked) (ours blank after : List ℕ) → moduleOut t (wordsBytes (moduleOut t ours blank)) after ≡ moduleOut t (wordsBytes ours) after
-      again (Refused why) ours blank after = refl
-      again (Count k) ours blank after = refl
+-- the test of the code: marks in or out are not 128 bytes
+abbrev Unread : List ℕ → List ℕ → Bool
+Unread marks out = not (eqb (length marks) 128) || not (eqb (length out) 128)
 
-  -- THE MODULE CALL FOR C IS RIGHT: where it counts, the out bytes, read as marks, mark exactly the module, and so many places
-  pub module-call-right : {k : ℕ} → askModuleC n m s marks a out ≡ Count k → MarksModule s (marksIn marks) a k (marksIn (moduleBytes n m s marks a out))
-  unfolding moduleBytes
-  module-call-right {k} e =
-      let M = moduleOf (linesOf s) (counted s (marksIn marks)) n m a in
-      let right = module-right n m s (marksIn marks) a (marksIn out) e in
-      rw (e, words-back (marksOf M) (marks-length M) (marks-small M)) (rw (module-written n m s (marksIn marks) a (marksIn out) e) at right)
+none-fit : (marks out : List ℕ) → Unread marks out ≡ true → (count : ℕ) → (marksFit (marksIn marks) count && eqb (length out) 128) ≡ false
+unfolding marksFit
+none-fit marks out h count = go (eqb (length marks) 128) (eqb (length out) 128) h
+  where
+    go : (t u : Bool) → (not t || not u) ≡ true → (marksFit (cond t (wordsIn marks) []) count && u) ≡ false
+    go true true h = never h refl
+    go true false h = and-false (marksFit (wordsIn marks) count)
+    go false u h = refl
 
-module _ (n m : ℕ) (s marks : List ℕ) (a b : ℕ) (out : List ℕ) where
-  -- THE PRINTED SET FROM ITS WORDS
-  pub set-read : {r : ℕ} {answer : SetAnswer} {after found : List ℕ} (blank : List ℕ) → length marks ≡ 128 → length out ≡ 128 → length blank ≡ 16
-      → answer ≡ askSet n m s (wordsIn marks) a b blank → found ≡ writtenSet n m s (wordsIn marks) a b blank
-      → r ≡ setCodeOf answer → after ≡ setOut answer (wordsBytes found) out
-      → (r ≡ setCode n m s marks a b out) × (after ≡ setBytes n m s marks a b out)
-  unfolding setCode setBytes writtenSet
-  set-read =
-      call-read setOut again setNumber setValue (λ ws. askSet n m s ws a b) (λ ws. setMarks n m s ws a b) (λ ws. set-length n m s ws a b) marks out
-    where
-      again : (t : SetAnswer) (ours blank after : List ℕ) → setOut t (wordsBytes (setOut t ours blank)) after ≡ setOut t (wordsBytes ours) after
-      again (sets.Refused why) ours blank after = refl
-      again sets.TooLong ours blank after = refl
-      again sets.NotFollows ours blank after = refl
-      again (sets.Count k) ours blank after = refl
+pub read-both : (marks out : ℕ) → (not (eqb marks 128) || not (eqb out 128)) ≡ false → (marks ≡ 128) × (out ≡ 128)
+read-both marks out = go (eqb marks 128) (eqb out 128) refl refl
+  where
+    go : (t u : Bool) → eqb marks 128 ≡ t → eqb out 128 ≡ u → (not t || not u) ≡ false → (marks ≡ 128) × (out ≡ 128)
+    go true true e f h = (eqb-true marks 128 e, eqb-true out 128 f)
+    go true false e f h = never refl h
+    go false u e f h = never refl h
 
-  -- THE SET CALL FOR C IS RIGHT: where the goal follows, the out bytes, read as marks, mark exactly the printed set, and so many places
-  pub set-call-right : Taken n m s (marksIn marks) a b → length out ≡ 128 → Follows (linesOf s) (counted s (marksIn marks)) a b
-      → (k : ℕ) × (setCode n m s marks a b out ≡ deskCode 0 k) × MarksSet s (marksIn marks) a b k (marksIn (setBytes n m s marks a b out))
-  unfolding setCode setBytes
-  set-call-right t l f =
-      let P = printed (linesOf s) (counted s (marksIn marks)) n m a b in
-      let right = set-printed n m s (marksIn marks) a b t (marksIn out) (read-length out l) f in
-      rw (right .1, words-back (marksOf P) (marks-length P) (marks-small P))
-      (right .0, refl, rw (set-found n m s (marksIn marks) a b t (marksIn out) (read-length out l) f .0) at (right .2))
+-- NOT 128 BYTES: each call's number is that of the question check without words
+module _ (n m : ℕ) (s marks : List ℕ) (a b : ℕ) {r : ℕ} (code : r ≡ deskCode (checkedNumber (checkQuestion n m s [] a b)) (checkedValue (checkQuestion n m s [] a b))) where
+  module _ (d : length marks ≡ 128 → ⊥) where
+    pub question-unread : GivesQuestion n m s (marksIn marks) a b (r % 256) (r / 256)
+    question-unread =
+        rw (no-words marks d)
+        (coded (GivesQuestion n m s [] a b) (checkedNumber (checkQuestion n m s [] a b)) (checkedValue (checkQuestion n m s [] a b)) (checked-small (checkQuestion n m s [] a b)) code (question-given n m s [] a b))
+
+    pub verdict-unread : GivesVerdict n m s (marksIn marks) a b (r % 256) (r / 256)
+    verdict-unread =
+        let u = unread-refused n m s a b in
+        rw (no-words marks d) (coded (GivesVerdict n m s [] a b) (refusalNumber (u .0)) (refusalPlace (u .0)) (refusal-small (u .0)) (rw (u .1) at code) (verdict-refused n m s [] a b (u .1)))
+
+    pub sheet-unread : (sheet : List ℕ) → GivesSheet n m s (marksIn marks) a b sheet sheet (r % 256) (r / 256)
+    sheet-unread sheet =
+        let u = unread-refused n m s a b in
+        rw (no-words marks d) (coded (GivesSheet n m s [] a b sheet sheet) (refusalNumber (u .0)) (refusalPlace (u .0)) (refusal-small (u .0)) (rw (u .1) at code) (sheet-refused n m s [] a b sheet (u .1)))
+
+  -- a call with out marks, whatever rows and whatever comes back behind the refusals of the question
+  out-unread : (out : List ℕ) → Unread marks out ≡ true → (otherwise : ℕ → Type 0) (more : List Row)
+      → Given (out ≡ out) (reasonRows n m s (marksIn marks) a b (eqb (length out) 128) ++ more) otherwise (r % 256) (r / 256)
+  unfolding checkQuestion marksFit
+  out-unread out h otherwise more =
+      let u = unread-refused n m s a b in
+      let fit = marksFit (marksIn marks) (recordCount s) && eqb (length out) 128 in
+      let same : afterPack (checkPack n m s) n fit a b ≡ Refused (u .0) = ap (λ (t : Bool). afterPack (checkPack n m s) n t a b) (none-fit marks out h (recordCount s)) ∙ u .1 in
+      coded (Given (out ≡ out) (askedRows n m s fit a b ++ more) otherwise) (refusalNumber (u .0)) (refusalPlace (u .0)) (refusal-small (u .0)) (rw (u .1) at code)
+      (given-after (out ≡ out) otherwise {k = refusalNumber (u .0)} {v = refusalPlace (u .0)} (askedRows n m s fit a b) more (recordCount s) question-numbered (Refused (u .0))
+      (rw same at (asked-given n m s fit a b))
+      (λ w g. let why : u .0 ≡ w = cc in (ap refusalNumber why, ap refusalPlace why, refl))
+      (λ j g. clash cc))
+
+  pub set-unread : (out : List ℕ) → Unread marks out ≡ true → GivesSetC n m s marks a b out out (r % 256) (r / 256)
+  set-unread out h =
+      out-unread out h (λ value. (words : List ℕ) × MarksSet s (marksIn marks) a b value words × (out ≡ wordsBytes words))
+      (refuse 6 (36800 < length (finished (linesOf s) (counted s (marksIn marks)) n m)) ∷ refuse 7 (Follows (linesOf s) (counted s (marksIn marks)) a b → ⊥) ∷ [])
+
+pub module-unread : (n m : ℕ) (s marks : List ℕ) (a : ℕ) {r : ℕ} → r ≡ deskCode (checkedNumber (checkQuestion n m s [] a a)) (checkedValue (checkQuestion n m s [] a a))
+    → (out : List ℕ) → Unread marks out ≡ true → GivesModuleC n m s marks a out out (r % 256) (r / 256)
+module-unread n m s marks a code out h = out-unread n m s marks a a code out h (λ value. (words : List ℕ) × MarksModule s (marksIn marks) a value words × (out ≡ wordsBytes words)) []
+
+-- 128 BYTES: what is found in 16 words of any content goes into them
+module _ (n m : ℕ) (s marks : List ℕ) (out : List ℕ) (hm : length marks ≡ 128) (ho : length out ≡ 128) where
+  read : marksIn marks ≡ wordsIn marks
+  read = rw (eq-eqb (length marks) 128 hm)
+
+  pub module-read : (a : ℕ) (x : Checked) {r : ℕ} {blank found after : List ℕ} → length blank ≡ 16 → GivesModule n m s (wordsIn marks) a blank found (checkedNumber x) (checkedValue x)
+      → r ≡ deskCode (checkedNumber x) (checkedValue x) → PutFound (checkedNumber x) found out after → GivesModuleC n m s marks a out after (r % 256) (r / 256)
+  module-read a x {blank = blank} {found = found} {after = after} hb g e put =
+      coded (GivesModuleC n m s marks a out after) (checkedNumber x) (checkedValue x) (checked-small x) e
+      (rw (read, eq-eqb (length out) 128 ho)
+      (given-map (found ≡ blank) (after ≡ out) (λ v. MarksModule s (wordsIn marks) a v found) (λ v. (words : List ℕ) × MarksModule s (wordsIn marks) a v words × (after ≡ wordsBytes words))
+      (reasonRows n m s (wordsIn marks) a a true) question-numbered (rw (eq-eqb (length blank) 16 hb) at g) (put .1) (λ z q. (found, q, put .0 z))))
+
+  pub set-read : (a b : ℕ) (x : SetAnswer) {r : ℕ} {blank found after : List ℕ} → length blank ≡ 16 → GivesSet n m s (wordsIn marks) a b blank found (setNumber x) (setValue x)
+      → r ≡ deskCode (setNumber x) (setValue x) → PutFound (setNumber x) found out after → GivesSetC n m s marks a b out after (r % 256) (r / 256)
+  set-read a b x {blank = blank} {found = found} {after = after} hb g e put =
+      coded (GivesSetC n m s marks a b out after) (setNumber x) (setValue x) (set-small x) e
+      (rw (read, eq-eqb (length out) 128 ho)
+      (given-map (found ≡ blank) (after ≡ out) (λ v. MarksSet s (wordsIn marks) a b v found) (λ v. (words : List ℕ) × MarksSet s (wordsIn marks) a b v words × (after ≡ wordsBytes words))
+      (setRows n m s (wordsIn marks) a b true) set-numbered (rw (eq-eqb (length blank) 16 hb) at g) (put .1) (λ z q. (found, q, put .0 z))))

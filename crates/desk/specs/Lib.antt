@@ -1,2 +1,3 @@
--- The definitions that the contracts cite.
+-- What the calls for C give.
 pub mod Desk
+pub mod Inner

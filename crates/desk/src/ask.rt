@@ -1,8 +1,10 @@
 // The pack check, the question check, the verdict and the sheet writer for C: each is the Rattle call of its name, the marks as 128 bytes.
-ghost use mathlib.Core.Path.{_≡_};
+ghost use Prim.Native.Nat.{_/_, _%_};
 ghost use Rattle.pack.specs.Bytes.{marksIn};
-ghost use Rattle.writer.specs.Sheet.{writtenSheet};
-ghost use Rattle.desk.specs.Desk.{packCode, questionCode, verdictCode, sheetCode};
+ghost use Rattle.pack.specs.Pack.{GivesPack};
+ghost use Rattle.pack.specs.Question.{GivesQuestion};
+ghost use Rattle.engine.specs.Verdict.{GivesVerdict};
+ghost use Rattle.writer.specs.Sheet.{GivesSheet};
 use crate::code::checked_code;
 use crate::code::sheet_code;
 use crate::code::unread_code;
@@ -16,7 +18,7 @@ use writer::write::write_sheet;
 // The pack check for C.
 #[no_mangle]
 pub extern "C" fn noolukask_check_pack(n: u64, m: u64, pack: &[u8]) -> u64
-    ensures { λ r. ⌜ r ≡ packCode n m (now (pack .entry)) ⌝ }
+    ensures { λ r. ⌜ GivesPack n m (now (pack .entry)) (r % 256) (r / 256) ⌝ }
 {
     checked_code(check_pack(n as usize, m as usize, pack))
 }
@@ -31,7 +33,7 @@ pub extern "C" fn noolukask_check_question<'a>(
     a: u64,
     b: u64,
 ) -> u64
-    ensures { λ r. ⌜ r ≡ questionCode n m (now (pack .entry)) (now (marks .entry)) a b ⌝ }
+    ensures { λ r. ⌜ GivesQuestion n m (now (pack .entry)) (marksIn (now (marks .entry))) a b (r % 256) (r / 256) ⌝ }
 {
     if marks.len() != 128 {
         return unread_code(n, m, pack, a, b);
@@ -50,7 +52,7 @@ pub extern "C" fn noolukask_verdict<'a>(
     a: u64,
     b: u64,
 ) -> u64
-    ensures { λ r. ⌜ r ≡ verdictCode n m (now (pack .entry)) (now (marks .entry)) a b ⌝ }
+    ensures { λ r. ⌜ GivesVerdict n m (now (pack .entry)) (marksIn (now (marks .entry))) a b (r % 256) (r / 256) ⌝ }
 {
     if marks.len() != 128 {
         return unread_code(n, m, pack, a, b);
@@ -70,7 +72,7 @@ pub extern "C" fn noolukask_write_sheet<'a>(
     b: u64,
     sheet: &mut [u8],
 ) -> u64
-    ensures { λ r. ⌜ (r ≡ sheetCode n m (now (pack .entry)) (now (marks .entry)) a b (now (sheet .entry))) × (now (sheet .exit) ≡ writtenSheet n m (now (pack .entry)) (marksIn (now (marks .entry))) a b (now (sheet .entry))) ⌝ }
+    ensures { λ r. ⌜ GivesSheet n m (now (pack .entry)) (marksIn (now (marks .entry))) a b (now (sheet .entry)) (now (sheet .exit)) (r % 256) (r / 256) ⌝ }
 {
     if marks.len() != 128 {
         return unread_code(n, m, pack, a, b);

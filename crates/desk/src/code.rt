@@ -2,8 +2,11 @@
 ghost use mathlib.Core.Path.{_≡_};
 ghost use mathlib.Core.List.{[]};
 ghost use Prim.Native.Nat.{_+_, _*_, _≤_};
-ghost use Rattle.pack.specs.Question.{checkQuestion};
-ghost use Rattle.desk.specs.Desk.{deskCode, checkedCode, verdictCodeOf, sheetCodeOf};
+ghost use Rattle.pack.specs.Computed.{checkQuestion};
+ghost use Rattle.desk.specs.Desk.{deskCode};
+ghost use Rattle.pack.specs.Answers.{checkedTold};
+ghost use Rattle.engine.specs.Verdict.{verdictTold};
+ghost use Rattle.writer.specs.Sheet.{sheetTold};
 use engine::verdict::VerdictAnswer;
 use pack::check::Checked;
 use pack::check::refusal_number;
@@ -20,7 +23,7 @@ pub fn desk_code(number: u32, value: u32) -> u64
 
 // What a check of 1 to 3, or of 1 to 5, returns.
 pub fn checked_code(checked: Checked) -> u64
-    ensures { λ r. ⌜ r ≡ checkedCode checked ⌝ }
+    ensures { λ r. ⌜ r ≡ deskCode (checkedTold checked .0) (checkedTold checked .1) ⌝ }
 {
     match checked {
         Checked::Refused(why) => desk_code(refusal_number(why), refusal_place(why)),
@@ -30,7 +33,7 @@ pub fn checked_code(checked: Checked) -> u64
 
 // Of marks in or out that are not 128 bytes: MARKS, or a lower number.
 pub fn unread_code(n: u64, m: u64, pack: &[u8], a: u64, b: u64) -> u64
-    ensures { λ r. ⌜ r ≡ checkedCode (checkQuestion n m (now (pack .entry)) [] a b) ⌝ }
+    ensures { λ r. ⌜ r ≡ deskCode (checkedTold (checkQuestion n m (now (pack .entry)) [] a b) .0) (checkedTold (checkQuestion n m (now (pack .entry)) [] a b) .1) ⌝ }
 {
     let none = [0u64; 0];
     checked_code(check_question(n as usize, m as usize, pack, &none, a as usize, b as usize))
@@ -38,7 +41,7 @@ pub fn unread_code(n: u64, m: u64, pack: &[u8], a: u64, b: u64) -> u64
 
 // What the verdict call returns.
 pub fn verdict_code(answer: VerdictAnswer) -> u64
-    ensures { λ r. ⌜ r ≡ verdictCodeOf answer ⌝ }
+    ensures { λ r. ⌜ r ≡ deskCode (verdictTold answer .0) (verdictTold answer .1) ⌝ }
 {
     match answer {
         VerdictAnswer::Refused(why) => desk_code(refusal_number(why), refusal_place(why)),
@@ -58,7 +61,7 @@ fn parts_code(count: u32, yes: u32) -> u64
 
 // What the sheet writer's call returns.
 pub fn sheet_code(answer: SheetAnswer) -> u64
-    ensures { λ r. ⌜ r ≡ sheetCodeOf answer ⌝ }
+    ensures { λ r. ⌜ r ≡ deskCode (sheetTold answer .0) (sheetTold answer .1) ⌝ }
 {
     match answer {
         SheetAnswer::Refused(why) => desk_code(refusal_number(why), refusal_place(why)),

@@ -1,12 +1,13 @@
 // The module and the printed set for C, the marks in and out as 128 bytes.
 ghost use mathlib.Core.Path.{_≡_};
 ghost use mathlib.Core.Bool.{not, _||_};
+ghost use Prim.Native.Nat.{_/_, _%_};
 ghost use lib.Dec.{eqb};
 ghost use lib.ListN.{length};
-ghost use Rattle.pack.specs.Bytes.{wordsBytes};
-ghost use Rattle.reasons.specs.Module.{moduleOut};
-ghost use Rattle.reasons.specs.Set.{setOut};
-ghost use Rattle.desk.specs.Desk.{checkedCode, setCodeOf, moduleCode, moduleBytes, setCode, setBytes};
+ghost use Rattle.desk.specs.Desk.{deskCode, GivesModuleC, GivesSetC};
+ghost use Rattle.desk.specs.Inner.{PutFound};
+ghost use Rattle.pack.specs.Answers.{checkedTold};
+ghost use Rattle.reasons.specs.Set.{setTold};
 use crate::code::desk_code;
 use crate::code::unread_code;
 use pack::bytes::read_marks;
@@ -28,7 +29,7 @@ fn unread(marks: usize, out: usize) -> bool
 // What the module call returns; where nothing is refused, the words that were found go into the out marks.
 fn module_code(answer: Checked, found: &[u64; 16], out: &mut [u8]) -> u64
     requires { ⌜ (length (now found) ≡ 16) × (length (now out) ≡ 128) ⌝ }
-    ensures { λ r. ⌜ (r ≡ checkedCode answer) × (now (out .exit) ≡ moduleOut answer (wordsBytes (now (found .entry))) (now (out .entry))) ⌝ }
+    ensures { λ r. ⌜ (r ≡ deskCode (checkedTold answer .0) (checkedTold answer .1)) × PutFound (checkedTold answer .0) (now (found .entry)) (now (out .entry)) (now (out .exit)) ⌝ }
 {
     match answer {
         Checked::Refused(why) => desk_code(refusal_number(why), refusal_place(why)),
@@ -49,7 +50,7 @@ pub extern "C" fn noolukask_module<'a>(
     a: u64,
     out: &mut [u8],
 ) -> u64
-    ensures { λ r. ⌜ (r ≡ moduleCode n m (now (pack .entry)) (now (marks .entry)) a (now (out .entry))) × (now (out .exit) ≡ moduleBytes n m (now (pack .entry)) (now (marks .entry)) a (now (out .entry))) ⌝ }
+    ensures { λ r. ⌜ GivesModuleC n m (now (pack .entry)) (now (marks .entry)) a (now (out .entry)) (now (out .exit)) (r % 256) (r / 256) ⌝ }
 {
     if unread(marks.len(), out.len()) {
         return unread_code(n, m, pack, a, a);
@@ -63,7 +64,7 @@ pub extern "C" fn noolukask_module<'a>(
 // What the printed set's call returns; where nothing is refused, the words that were found go into the out marks.
 fn set_code(answer: SetAnswer, found: &[u64; 16], out: &mut [u8]) -> u64
     requires { ⌜ (length (now found) ≡ 16) × (length (now out) ≡ 128) ⌝ }
-    ensures { λ r. ⌜ (r ≡ setCodeOf answer) × (now (out .exit) ≡ setOut answer (wordsBytes (now (found .entry))) (now (out .entry))) ⌝ }
+    ensures { λ r. ⌜ (r ≡ deskCode (setTold answer .0) (setTold answer .1)) × PutFound (setTold answer .0) (now (found .entry)) (now (out .entry)) (now (out .exit)) ⌝ }
 {
     match answer {
         SetAnswer::Refused(why) => desk_code(refusal_number(why), refusal_place(why)),
@@ -87,7 +88,7 @@ pub extern "C" fn noolukask_printed_set<'a>(
     b: u64,
     out: &mut [u8],
 ) -> u64
-    ensures { λ r. ⌜ (r ≡ setCode n m (now (pack .entry)) (now (marks .entry)) a b (now (out .entry))) × (now (out .exit) ≡ setBytes n m (now (pack .entry)) (now (marks .entry)) a b (now (out .entry))) ⌝ }
+    ensures { λ r. ⌜ GivesSetC n m (now (pack .entry)) (now (marks .entry)) a b (now (out .entry)) (now (out .exit)) (r % 256) (r / 256) ⌝ }
 {
     if unread(marks.len(), out.len()) {
         return unread_code(n, m, pack, a, b);

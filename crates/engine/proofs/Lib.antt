@@ -4,4 +4,5 @@ pub mod GoalLaws
 pub mod RunLaws
 pub mod VerdictLaws
 pub mod VerdictRight
+pub mod Promises
 pub mod CompleteLaws

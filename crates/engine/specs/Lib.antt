@@ -1,4 +1,4 @@
--- What the engine answers: the verdict.
+-- What the engine gives: the verdict.
 pub mod Verdict
-pub mod Answers
+pub mod Computed
 pub mod Inner

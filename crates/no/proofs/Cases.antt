@@ -7,14 +7,14 @@ use Rattle.bits.specs.Bit.{has}
 use Rattle.bits.specs.Sets.{lowest, every, some}
 use Rattle.bits.specs.Lists.{listed}
 use Rattle.marks.specs.Marks.{marked, marksFit}
-use Rattle.pack.specs.World.{lineAt, implies, obeysAt, obeys}
+use Rattle.pack.specs.World.{lineAt}
+use Rattle.pack.specs.Computed.{implies, obeysAt, obeys, checkRecords, checkPack, checkQuestion}
 use Rattle.pack.specs.Bytes.{littleEndian}
 use Rattle.pack.specs.Record.{lineIn, keepsIn, linesOf}
-use Rattle.pack.specs.Pack.{checkRecords, checkPack}
-use Rattle.pack.specs.Question.{checkQuestion}
 use Rattle.pack.proofs.Examples.{recordBytes, oneUnder}
 use Rattle.no.specs.declared.check.NoAnswer.the-variants as no
-use Rattle.no.specs.NoSheet.{rowAt, forbidden, lowestForbidden, lowestBroken, refutes, checkWorld, checkRows, checkNo}
+use Rattle.no.specs.NoSheet.{rowAt, forbidden}
+use Rattle.no.specs.Computed.{lowestForbidden, lowestBroken, refutes, checkWorld, checkRows, checkNo}
 
 -- the one record marked, and a world of one thing
 unfoldable pub one : List ℕ

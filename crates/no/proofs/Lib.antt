@@ -2,5 +2,5 @@
 pub mod ThingLaws
 pub mod WorldRows
 pub mod NoLaws
-pub mod GivenLaws
+pub mod Promises
 pub mod Cases

@@ -7,24 +7,25 @@ use native.Mathlib.Nat.{mul-add, mul-one, mul-comm, mul-assoc, suc-mul, mul-le-m
 use native.Mathlib.Omega.{arith}
 use lib.Dec.{eqb, ltb, leb}
 use lib.ListN.{length}
-use borrow.Author.Tests.{le-ltb, ltb-true, ltb-false, leb-true, le-leb, not-true, not-false}
+use borrow.Author.Tests.{le-ltb, ltb-false, leb-true, le-leb, not-true, not-false}
 use Rattle.bits.specs.Bit.{has}
 use Rattle.bits.specs.Sets.{some}
-use Rattle.bits.proofs.Promises.{no-second}
 use Rattle.bits.proofs.Truth.{both-true, true-both, never, is-no, clash, cond-first, cond-second}
-use Rattle.bits.proofs.SetLaws.{lowest-is, lowest-none, none-lowest, First, first-is, first-none, some-true, true-some}
+use Rattle.bits.proofs.SetLaws.{lowest-is, lowest-none, none-lowest, first-none, some-true, true-some}
 use Rattle.pack.specs.declared.check.Refusal.{Refusal}
 use Rattle.pack.specs.declared.check.Checked.{Checked}
 use Rattle.pack.specs.declared.check.Checked.the-variants as checked
 use Rattle.pack.specs.declared.line.Line.{Line}
 use Rattle.pack.specs.declared.line.Line.the-variants.{Under, BothUnder, UnderSome, SomeUnder, RoleUnder, ChainUnder, NoLine}
-use Rattle.pack.specs.World.{World, Is, Obeys, Follows, lineAt, obeys}
+use Rattle.pack.specs.World.{World, Is, Obeys, Follows, lineAt}
+use Rattle.pack.specs.Computed.{obeys, checkQuestion}
 use Rattle.pack.specs.Record.{linesOf, ValidLine, Valid}
-use Rattle.pack.specs.Question.{counted, checkQuestion}
+use Rattle.pack.specs.Question.{counted}
 use Rattle.pack.proofs.WorldLaws.{obeys-line, line-obeys}
 use Rattle.no.specs.declared.check.NoAnswer.{NoAnswer}
 use Rattle.no.specs.declared.check.NoAnswer.the-variants as no
-use Rattle.no.specs.NoSheet.{rowAt, rowsOf, thingsIn, noLengthFits, forbidden, worldOf, lowestForbidden, lowestBroken, refutes, checkWorld, checkRows, noAfter, checkNo}
+use Rattle.no.specs.NoSheet.{rowAt, rowsOf, forbidden, worldOf}
+use Rattle.no.specs.Computed.{thingsBy, noLengthBy, lowestForbidden, lowestBroken, refutes, checkWorld, checkRows, noAfter, checkNo}
 use Rattle.no.specs.Inner.{ThingsFit, RoleFits, LineFits, LinesFit}
 
 -- the rows: k, and k for each role
@@ -35,9 +36,9 @@ pub rows-few : (m k : ℕ) → m ≤ 8 → k ≤ 64 → rowsOf m k ≤ 576
 rows-few m k h l = omega (arith, rows-are m k, mul-le-mul-left m l, mul-comm m k)
 
 -- a length that is a multiple of 8 · (1 + m) is that of its things' rows
-pub whole-rows : (m : ℕ) (sheet : List ℕ) → length sheet % (8 * (1 + m)) ≡ 0 → length sheet ≡ rowsOf m (thingsIn m sheet) * 8
+pub whole-rows : (m : ℕ) (sheet : List ℕ) → length sheet % (8 * (1 + m)) ≡ 0 → length sheet ≡ rowsOf m (thingsBy m sheet) * 8
 whole-rows m sheet e =
-    let k = thingsIn m sheet in
+    let k = thingsBy m sheet in
     let d : k * (8 * (1 + m)) + length sheet % (8 * (1 + m)) ≡ length sheet = div-add-mod' (length sheet) (8 * (1 + m)) in
     let f : k * (8 * (1 + m)) ≡ k * (1 + m) * 8 = ap (λ (v : ℕ). k * v) (mul-comm 8 (1 + m)) ∙ sym (mul-assoc k (1 + m) 8) in
     omega arith
@@ -89,14 +90,14 @@ all-rows n m k sheet e h =
     omega (arith, zero-add (rowsOf m k))
 
 -- the two tests of a world
-refuting : (w : World) (a b : ℕ) → refutes w a b ≡ true → (x : ℕ) × (x < w .things) × Is w x a × (w .isIn x b ≡ false)
+pub refuting : (w : World) (a b : ℕ) → refutes w a b ≡ true → (x : ℕ) × (x < w .things) × Is w x a × (w .isIn x b ≡ false)
 unfolding refutes
 refuting w a b h =
     let e = some-true (λ x. w .isIn x a && not (w .isIn x b)) (w .things) h in
     let p = both-true (w .isIn (e .0) a) (not (w .isIn (e .0) b)) (e .2) in
     (e .0, e .1, p .0, not-true (w .isIn (e .0) b) (p .1))
 
-refuted : (w : World) (a b x : ℕ) → x < w .things → Is w x a → w .isIn x b ≡ false → refutes w a b ≡ true
+pub refuted : (w : World) (a b x : ℕ) → x < w .things → Is w x a → w .isIn x b ≡ false → refutes w a b ≡ true
 unfolding refutes
 refuted w a b x l p q = true-some (λ x. w .isIn x a && not (w .isIn x b)) (w .things) x l (rw (p, q))
 
@@ -120,31 +121,31 @@ module _ (w : World) (ls : List Line) (S : ℕ → Bool) where
 -- the answers to a question that is taken, one below the other
 module _ (n m : ℕ) (s ws : List ℕ) (a b : ℕ) (sheet : List ℕ) where
   abbrev k : ℕ
-  k = thingsIn m sheet
+  k = thingsBy m sheet
 
   abbrev w : World
-  w = worldOf (thingsIn m sheet) sheet
+  w = worldOf (thingsBy m sheet) sheet
 
   abbrev row : ℕ
-  row = lowestForbidden n m (thingsIn m sheet) sheet
+  row = lowestForbidden n m (thingsBy m sheet) sheet
 
   abbrev place : ℕ
-  place = lowestBroken (worldOf (thingsIn m sheet) sheet) (linesOf s) (counted s ws)
+  place = lowestBroken (worldOf (thingsBy m sheet) sheet) (linesOf s) (counted s ws)
 
   -- an answer other than a refusal of the question is one of those
-  taken : {r : NoAnswer} → checkNo n m s ws a b sheet ≡ r → ((why : Refusal) → no.Refused why ≡ r → ⊥) → cond (noLengthFits m sheet) (checkRows n m k (linesOf s) (counted s ws) a b sheet) no.Length ≡ r
+  taken : {r : NoAnswer} → checkNo n m s ws a b sheet ≡ r → ((why : Refusal) → no.Refused why ≡ r → ⊥) → cond (noLengthBy m sheet) (checkRows n m k (linesOf s) (counted s ws) a b sheet) no.Length ≡ r
   unfolding checkNo
   taken {r} e question = after (checkQuestion n m s ws a b) e
     where
-      after : (q : Checked) → noAfter q n m s ws a b sheet ≡ r → cond (noLengthFits m sheet) (checkRows n m k (linesOf s) (counted s ws) a b sheet) no.Length ≡ r
+      after : (q : Checked) → noAfter q n m s ws a b sheet ≡ r → cond (noLengthBy m sheet) (checkRows n m k (linesOf s) (counted s ws) a b sheet) no.Length ≡ r
       after (checked.Refused why) h = absurd (question why h)
       after (checked.Count c) h = h
 
   -- AN ACCEPTED NO SHEET IS A WORLD that obeys every line that counts and has a thing of a that is not in b: the goal does not follow
-  pub no-right : checkNo n m s ws a b sheet ≡ no.Accepted → Follows (linesOf s) (counted s ws) a b → ⊥
+  pub no-sound : checkNo n m s ws a b sheet ≡ no.Accepted → Follows (linesOf s) (counted s ws) a b → ⊥
   unfolding checkRows checkWorld
-  no-right e f =
-      let l = cond-first (noLengthFits m sheet) (taken e (λ why q. clash cc)) (λ q. clash cc) in
+  no-sound e f =
+      let l = cond-first (noLengthBy m sheet) (taken e (λ why q. clash cc)) (λ q. clash cc) in
       let r = cond-second (ltb row (rowsOf m k)) (l .1) (λ q. clash cc) in
       let p = cond-second (ltb place (length (linesOf s))) (r .1) (λ q. clash cc) in
       let g = cond-first (refutes w a b) (p .1) (λ q. clash cc) in
@@ -153,9 +154,9 @@ module _ (n m : ℕ) (s ws : List ℕ) (a b : ℕ) (sheet : List ℕ) where
       never (f w some (none-broken w (linesOf s) (counted s ws) (ltb-false place (length (linesOf s)) (p .0))) (t .0) (t .1) (t .2)) (t .3)
 
   -- A SHEET THAT KEEPS THE RULES IS ACCEPTED
-  pub no-accepts : {c : ℕ} → checkQuestion n m s ws a b ≡ checked.Count c → noLengthFits m sheet ≡ true → ((i : ℕ) → i < rowsOf m k → forbidden n k sheet i ≡ false) → Obeys w (linesOf s) (counted s ws) → (x : ℕ) → x < k → Is w x a → w .isIn x b ≡ false → checkNo n m s ws a b sheet ≡ no.Accepted
+  pub world-accepts : {c : ℕ} → checkQuestion n m s ws a b ≡ checked.Count c → noLengthBy m sheet ≡ true → ((i : ℕ) → i < rowsOf m k → forbidden n k sheet i ≡ false) → Obeys w (linesOf s) (counted s ws) → (x : ℕ) → x < k → Is w x a → w .isIn x b ≡ false → checkNo n m s ws a b sheet ≡ no.Accepted
   unfolding checkNo checkRows checkWorld lowestForbidden
-  no-accepts e fit clean o x l p q =
+  world-accepts e fit clean o x l p q =
       rw (
         e,
         fit,
@@ -166,32 +167,3 @@ module _ (n m : ℕ) (s ws : List ℕ) (a b : ℕ) (sheet : List ℕ) where
         le-ltb (length (linesOf s)) (length (linesOf s)) (omega arith),
         refuted w a b x l p q,
       )
-
-  -- ROW GIVES THE LOWEST ROW with a forbidden bit
-  pub row-lowest : {i : ℕ} → checkNo n m s ws a b sheet ≡ no.Row i → First (forbidden n k sheet) (rowsOf m k) i
-  unfolding checkRows checkWorld lowestForbidden
-  row-lowest {i} e =
-      let l = cond-first (noLengthFits m sheet) (taken e (λ why q. clash cc)) (λ q. clash cc) in
-      let r = cond-first (ltb row (rowsOf m k)) (l .1)
-      (λ q.
-      let p = cond-second (ltb place (length (linesOf s))) q (λ q. clash cc) in
-      let g = cond-first (refutes w a b) (p .1) (λ q. clash cc) .1 in
-      clash cc) in
-      let stops = r .1 in
-      let same : row ≡ i = cc in
-      rw (← same) (first-is (forbidden n k sheet) refl (ltb-true row (rowsOf m k) (r .0)))
-
-  -- BROKEN GIVES THE LOWEST PLACE that counts and that the world does not obey
-  pub broken-lowest : {i : ℕ} → checkNo n m s ws a b sheet ≡ no.Broken i → First (brokenAt w (linesOf s) (counted s ws)) (length (linesOf s)) i
-  unfolding checkRows checkWorld lowestBroken
-  broken-lowest {i} e =
-      let l = cond-first (noLengthFits m sheet) (taken e (λ why q. clash cc)) (λ q. clash cc) in
-      let r = cond-second (ltb row (rowsOf m k)) (l .1) (λ q. clash cc) in
-      let p = cond-first (ltb place (length (linesOf s))) (r .1) (λ q. let g = cond-first (refutes w a b) q (λ q. clash cc) .1 in clash cc) in
-      let stops = p .1 in
-      let same : place ≡ i = cc in
-      rw (← same) (first-is (brokenAt w (linesOf s) (counted s ws)) refl (ltb-true place (length (linesOf s)) (p .0)))
-
-  -- no second result satisfies the promise
-  pub no-fixed : (r r′ : NoAnswer) → r ≡ checkNo n m s ws a b sheet → r′ ≡ checkNo n m s ws a b sheet → r ≡ r′
-  no-fixed r r′ = no-second

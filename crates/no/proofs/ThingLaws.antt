@@ -12,7 +12,7 @@ use Rattle.bits.specs.Sets.{lowest, every, some}
 use Rattle.bits.proofs.Truth.{and-no, alike, never, is-no}
 use Rattle.bits.proofs.SetLaws.{Lowest, lowest-is, lowest-at, every-true, true-every, every-false, some-true, true-some, some-false}
 use Rattle.bits.proofs.BitLaws.{meets-none, none-meets, contained, contains}
-use Rattle.pack.specs.World.{implies}
+use Rattle.pack.specs.Computed.{implies}
 use Rattle.pack.proofs.WorldLaws.{implies-true, true-implies}
 
 -- two words meet

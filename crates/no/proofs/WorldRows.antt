@@ -10,10 +10,10 @@ use Rattle.bits.specs.Bit.{has}
 use Rattle.bits.specs.Sets.{every, some}
 use Rattle.bits.proofs.Truth.{and-no, never}
 use Rattle.bits.proofs.SetLaws.{every-same}
-use Rattle.pack.specs.World.{implies}
+use Rattle.pack.specs.Computed.{implies}
 use Rattle.pack.proofs.WorldLaws.{true-implies}
 use Rattle.no.specs.NoSheet.{rowAt, worldOf}
-use Rattle.no.specs.Inner.{Column, RoleFits}
+use Rattle.no.specs.Inner.{ThingsColumn, RoleFits}
 use Rattle.no.proofs.ThingLaws.{some-things, every-things}
 
 -- a thing that is linked to is one of the k things
@@ -25,7 +25,7 @@ link-below k sheet r x y f h b t = go (decLt y k)
     go (no l) = never t (f .inside x y h (omega arith) b)
 
 -- over the k things, the tests of whole rows say what the world says
-pub meets-things : (k : ℕ) (sheet : List ℕ) (links column a : ℕ) → k ≤ 64 → Column (worldOf k sheet) a column → some 64 (λ y. has links y && has column y) ≡ some k (λ y. has links y && has (rowAt sheet y) a)
+pub meets-things : (k : ℕ) (sheet : List ℕ) (links column a : ℕ) → k ≤ 64 → ThingsColumn (worldOf k sheet) a column → some 64 (λ y. has links y && has column y) ≡ some k (λ y. has links y && has (rowAt sheet y) a)
 meets-things k sheet links column a h col =
     some-things (λ y. has links y && has column y) (λ y. has links y && has (rowAt sheet y) a) k h
     (λ j l. ap (λ (t : Bool). has links j && t) (col j ∙ ap (λ (t : Bool). t && has (rowAt sheet j) a) (lt-ltb j k l)))

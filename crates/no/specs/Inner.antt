@@ -12,15 +12,15 @@ use Rattle.pack.specs.World.{World, lineAt}
 use Rattle.no.specs.NoSheet.{rowAt}
 
 -- bit y of the word is set exactly where thing y is in concept a
-abbrev pub Column : World → ℕ → ℕ → Type 0
-Column w a word = (y : ℕ) → has word y ≡ (ltb y (w .things) && w .isIn y a)
+abbrev pub ThingsColumn : World → ℕ → ℕ → Type 0
+ThingsColumn w a word = (y : ℕ) → has word y ≡ (ltb y (w .things) && w .isIn y a)
 
 -- the column that a line needs: that of the concept on the far side of its link
 abbrev pub ColumnFor : World → Line → ℕ → Type 0
 ColumnFor w (Under a b) word = Unit {0}
 ColumnFor w (BothUnder a₁ a₂ b) word = Unit {0}
-ColumnFor w (UnderSome a r b) word = Column w b word
-ColumnFor w (SomeUnder r a b) word = Column w a word
+ColumnFor w (UnderSome a r b) word = ThingsColumn w b word
+ColumnFor w (SomeUnder r a b) word = ThingsColumn w a word
 ColumnFor w (RoleUnder r s) word = Unit {0}
 ColumnFor w (ChainUnder r s t) word = Unit {0}
 ColumnFor w NoLine word = Unit {0}

@@ -1,20 +1,13 @@
 -- A no sheet: the rows of a world.
-use mathlib.Core.Bool.{Bool, cond, not, _&&_}
+use mathlib.Core.Bool.{Bool, cond, _&&_}
 use mathlib.Core.List.{List}
-use Prim.Native.Nat.{ℕ, _+_, _*_, _/_, _%_}
+use Prim.Native.Nat.{ℕ, _+_, _*_}
 use lib.Dec.{eqb, ltb, leb}
 use lib.ListN.{length}
 use Rattle.bits.specs.Bit.{has}
 use Rattle.bits.specs.Sets.{lowest, some}
-use Rattle.pack.specs.declared.check.Checked.{Checked}
-use Rattle.pack.specs.declared.check.Checked.the-variants as checked
-use Rattle.pack.specs.declared.line.Line.{Line}
-use Rattle.pack.specs.World.{World, lineAt, obeys}
+use Rattle.pack.specs.World.{World}
 use Rattle.pack.specs.Bytes.{wordIn, part}
-use Rattle.pack.specs.Record.{linesOf}
-use Rattle.pack.specs.Question.{counted, checkQuestion}
-use Rattle.no.specs.declared.check.NoAnswer.{NoAnswer}
-use Rattle.no.specs.declared.check.NoAnswer.the-variants as no
 
 -- row i of a sheet
 unfoldable pub rowAt : List ℕ → ℕ → ℕ
@@ -24,13 +17,9 @@ rowAt sheet i = wordIn (part sheet i)
 abbrev pub rowsOf : ℕ → ℕ → ℕ
 rowsOf m k = k * (1 + m)
 
--- k, where the length is 8 · k · (1 + m)
-abbrev pub thingsIn : ℕ → List ℕ → ℕ
-thingsIn m sheet = length sheet / (8 * (1 + m))
-
--- there is such a k, from 1 to 64
-abbrev pub noLengthFits : ℕ → List ℕ → Bool
-noLengthFits m sheet = eqb (length sheet % (8 * (1 + m))) 0 && (leb 1 (thingsIn m sheet) && leb (thingsIn m sheet) 64)
+-- k, from 1 to 64, where the length is 8 · k · (1 + m); where there is no such k, 65
+unfoldable pub thingsIn : ℕ → List ℕ → ℕ
+thingsIn m sheet = lowest (λ k. eqb (length sheet) (8 * (k * (1 + m)))) 1 64
 
 -- row i has a bit at or above n, in the first k rows, or at or above k, in the others
 unfoldable pub forbidden : ℕ → ℕ → List ℕ → ℕ → Bool
@@ -39,38 +28,3 @@ forbidden n k sheet i = some 64 (λ j. leb (cond (ltb i k) n k) j && has (rowAt 
 -- the world that the rows describe
 abbrev pub worldOf : ℕ → List ℕ → World
 worldOf k sheet = record { things = k; isIn = λ x a. has (rowAt sheet x) a; linked = λ x r y. has (rowAt sheet (k + (r * k + x))) y }
-
--- the lowest row with a forbidden bit, or the number of rows
-unfoldable pub lowestForbidden : ℕ → ℕ → ℕ → List ℕ → ℕ
-lowestForbidden n m k sheet = lowest (forbidden n k sheet) 0 (rowsOf m k)
-
--- the lowest place of S whose line the world breaks, or the number of lines
-unfoldable pub lowestBroken : World → List Line → (ℕ → Bool) → ℕ
-lowestBroken w ls S = lowest (λ i. S i && not (obeys w (lineAt ls i))) 0 (length ls)
-
--- some thing is in a and not in b
-unfoldable pub refutes : World → ℕ → ℕ → Bool
-refutes w a b = some (w .things) (λ x. w .isIn x a && not (w .isIn x b))
-
--- 12 BROKEN, 13 NOT SHOWN, else ACCEPTED
-unfoldable pub checkWorld : World → List Line → (ℕ → Bool) → ℕ → ℕ → NoAnswer
-checkWorld w ls S a b =
-    cond (ltb (lowestBroken w ls S) (length ls))
-    (no.Broken (lowestBroken w ls S))
-    (cond (refutes w a b) no.Accepted no.NotShown)
-
--- 11 ROW, then the world
-unfoldable pub checkRows : ℕ → ℕ → ℕ → List Line → (ℕ → Bool) → ℕ → ℕ → List ℕ → NoAnswer
-checkRows n m k ls S a b sheet =
-    cond (ltb (lowestForbidden n m k sheet) (rowsOf m k))
-    (no.Row (lowestForbidden n m k sheet))
-    (checkWorld (worldOf k sheet) ls S a b)
-
--- 1 to 5, 9 LENGTH, then the rows
-abbrev pub noAfter : Checked → ℕ → ℕ → List ℕ → List ℕ → ℕ → ℕ → List ℕ → NoAnswer
-noAfter (checked.Refused why) n m s ws a b sheet = no.Refused why
-noAfter (checked.Count c) n m s ws a b sheet =
-    cond (noLengthFits m sheet) (checkRows n m (thingsIn m sheet) (linesOf s) (counted s ws) a b sheet) no.Length
-
-unfoldable pub checkNo : ℕ → ℕ → List ℕ → List ℕ → ℕ → ℕ → List ℕ → NoAnswer
-checkNo n m s ws a b sheet = noAfter (checkQuestion n m s ws a b) n m s ws a b sheet

@@ -3,12 +3,13 @@ ghost use mathlib.Core.Path.{_≡_};
 ghost use mathlib.Core.Bool.{not, _&&_};
 ghost use Prim.Native.Nat.{_*_, _≤_, _<_, _/_};
 ghost use lib.ListN.{length};
-ghost use Rattle.pack.specs.World.{lineAt, obeys};
+ghost use Rattle.pack.specs.World.{lineAt};
+ghost use Rattle.pack.specs.Computed.{obeys, Admitted};
 ghost use Rattle.pack.specs.Record.{linesOf, recordCount};
-ghost use Rattle.pack.specs.Question.{counted, Taken};
-ghost use Rattle.pack.specs.Table.{Given};
-ghost use Rattle.no.specs.NoSheet.{worldOf, rowsOf, lowestBroken, checkWorld, checkRows, checkNo};
-ghost use Rattle.no.specs.Answers.{noNumber, noPlace, noTable};
+ghost use Rattle.pack.specs.Question.{counted};
+ghost use Rattle.no.specs.NoSheet.{worldOf, rowsOf};
+ghost use Rattle.no.specs.Computed.{lowestBroken, checkWorld, checkRows, checkNo};
+ghost use Rattle.no.specs.Answers.{noTold, GivesNo};
 ghost use Rattle.no.specs.Inner.{ThingsFit, LinesFit};
 use crate::row::lowest_forbidden;
 use crate::thing::world_obeys;
@@ -95,7 +96,7 @@ fn check_rows<'a>(
     sheet: &'a [u8],
     k: usize,
 ) -> NoAnswer
-    requires { ⌜ Taken n m (now pack) (now marks) a b × (length (now sheet) ≡ rowsOf m k * 8) × (k ≤ 64) ⌝ }
+    requires { ⌜ Admitted n m (now pack) (now marks) a b × (length (now sheet) ≡ rowsOf m k * 8) × (k ≤ 64) ⌝ }
     ensures { λ r. ⌜ r ≡ checkRows n m k (linesOf (now (pack .entry))) (counted (now (pack .entry)) (now (marks .entry))) a b (now (sheet .entry)) ⌝ }
 {
     let rows = k * (1 + m);
@@ -116,7 +117,7 @@ fn check_no_counted<'a>(
     b: usize,
     sheet: &'a [u8],
 ) -> NoAnswer
-    requires { ⌜ Taken n m (now pack) (now marks) a b ⌝ }
+    requires { ⌜ Admitted n m (now pack) (now marks) a b ⌝ }
     ensures { λ r. ⌜ r ≡ checkNo n m (now (pack .entry)) (now (marks .entry)) a b (now (sheet .entry)) ⌝ }
 {
     let thing = 8 * (1 + m);
@@ -143,8 +144,7 @@ pub fn check_no<'a>(
     b: usize,
     sheet: &'a [u8],
 ) -> NoAnswer
-    ensures answer { λ r. ⌜ r ≡ checkNo n m (now (pack .entry)) (now (marks .entry)) a b (now (sheet .entry)) ⌝ }
-    ensures table { λ r. ⌜ Given (noNumber r) (noPlace r) 0 (noTable n m (now (pack .entry)) (now (marks .entry)) a b (now (sheet .entry))) ⌝ }
+    ensures { λ r. ⌜ GivesNo n m (now (pack .entry)) (now (marks .entry)) a b (now (sheet .entry)) (noTold r .0) (noTold r .1) ⌝ }
 {
     let checked = check_question(n, m, pack, marks, a, b);
     match checked {

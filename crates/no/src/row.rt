@@ -6,7 +6,8 @@ ghost use lib.Dec.{leb};
 ghost use lib.ListN.{length};
 ghost use Rattle.bits.specs.Bit.{has};
 ghost use Rattle.bits.specs.Sets.{some};
-ghost use Rattle.no.specs.NoSheet.{rowAt, rowsOf, forbidden, lowestForbidden};
+ghost use Rattle.no.specs.NoSheet.{rowAt, rowsOf, forbidden};
+ghost use Rattle.no.specs.Computed.{lowestForbidden};
 use pack::bytes::read_word;
 
 // Row i of the sheet.

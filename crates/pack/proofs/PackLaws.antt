@@ -6,13 +6,14 @@ use Prim.Native.Nat.{ℕ, _%_, _≤_, _<_}
 use native.Mathlib.Omega.{arith}
 use lib.Dec.{ltb, leb, eqb}
 use lib.ListN.{length}
-use borrow.Author.Tests.{ltb-true, ltb-false, leb-true, eqb-true, lt-ltb, le-ltb, le-leb, eq-eqb, not-false}
-use Rattle.bits.proofs.SetLaws.{lowest-at, First, first-is, first-none}
+use borrow.Author.Tests.{ltb-false, leb-true, eqb-true, lt-ltb, le-ltb, le-leb, eq-eqb, not-false}
+use Rattle.bits.proofs.SetLaws.{lowest-at, first-none}
 use Rattle.bits.proofs.Truth.{both-true, clash, cond-first, cond-second}
 use Rattle.pack.specs.declared.check.Refusal.the-variants.{Record}
 use Rattle.pack.specs.declared.check.Checked.the-variants.{Refused, Count}
 use Rattle.pack.specs.Record.{keepsAt, recordCount}
-use Rattle.pack.specs.Pack.{sizesFit, lengthFits, lowestUnkept, checkRecords, checkPack}
+use Rattle.pack.specs.Pack.{sizesFit, lengthFits}
+use Rattle.pack.specs.Computed.{lowestUnkept, checkRecords, checkPack}
 
 module _ (n m : ℕ) (s : List ℕ) where
   abbrev pub unkept : ℕ → Bool
@@ -78,14 +79,3 @@ module _ (n m : ℕ) (s : List ℕ) where
         le-ltb (lowestUnkept n m s) (recordCount s) (omega arith),
         a .count,
       )
-
-  -- RECORD GIVES THE LOWEST PLACE that breaks a rule
-  pub refused-at : {i : ℕ} → checkPack n m s ≡ Refused (Record i) → First unkept (recordCount s) i
-  unfolding checkPack checkRecords
-  refused-at {i} e =
-      let p = cond-first (sizesFit n m) e (λ q. clash cc) in
-      let q = cond-first (lengthFits s) (p .1) (λ q. clash cc) in
-      let t = cond-first (ltb (lowestUnkept n m s) (recordCount s)) (q .1) (λ q. clash cc) in
-      let stops = t .1 in
-      let same : lowestUnkept n m s ≡ i = cc in
-      rw (← same) (first-is unkept refl (ltb-true (lowestUnkept n m s) (recordCount s) (t .0)))

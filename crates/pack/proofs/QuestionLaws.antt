@@ -11,9 +11,9 @@ use Rattle.marks.specs.Marks.{marksFit, marked}
 use Rattle.marks.proofs.MarkLaws.{Fit, fit, fits}
 use Rattle.pack.specs.declared.check.Checked.{Checked}
 use Rattle.pack.specs.declared.check.Checked.the-variants.{Refused, Count}
-use Rattle.pack.specs.Pack.{checkPack}
-use Rattle.pack.specs.Question.{goalFits, afterPack, checkQuestion}
-use Rattle.pack.specs.Record.{linesOf, Valid}
+use Rattle.pack.specs.Computed.{checkPack, afterPack, checkQuestion}
+use Rattle.pack.specs.Question.{goalFits}
+use Rattle.pack.specs.Record.{linesOf, recordCount, Valid}
 use Rattle.pack.proofs.RecordLaws.{lines-valid}
 use Rattle.pack.proofs.PackLaws.{Accepted, accepted, accepts}
 
@@ -28,10 +28,10 @@ pub asked : (n m : ℕ) (s ws : List ℕ) (a b : ℕ) {k : ℕ} → checkQuestio
 unfolding checkQuestion
 asked n m s ws a b {k} = after (checkPack n m s) refl
   where
-    after : (r : Checked) → checkPack n m s ≡ r → afterPack r n (marksFit ws) a b ≡ Count k → Asked n m s ws a b k
+    after : (r : Checked) → checkPack n m s ≡ r → afterPack r n (marksFit ws (recordCount s)) a b ≡ Count k → Asked n m s ws a b k
     after (Refused why) e h = clash cc
     after (Count j) e h =
-        let f = cond-first (marksFit ws j) h (λ q. clash cc) in
+        let f = cond-first (marksFit ws (recordCount s)) h (λ q. clash cc) in
         let g = cond-first (goalFits n a b) (f .1) (λ q. clash cc) in
         let counts = g .1 in
         let same : j ≡ k = cc in
@@ -39,7 +39,7 @@ asked n m s ws a b {k} = after (checkPack n m s) refl
         rw (← same)
         (record {
           pack = accepted n m s e;
-          marks = fit ws (f .0);
+          marks = rw (accepted n m s e .count) (fit ws (f .0));
           goalA = ltb-true a n (p .0);
           goalB = ltb-true b n (p .1);
         })
@@ -52,7 +52,7 @@ asked-valid n m s ws a b h = lines-valid n m s (asked n m s ws a b h .pack .all)
 pub asks : (n m : ℕ) (s ws : List ℕ) (a b : ℕ) {k : ℕ} → Asked n m s ws a b k → checkQuestion n m s ws a b ≡ Count k
 unfolding checkQuestion
 asks n m s ws a b {k} q =
-    rw (accepts n m s (q .pack), fits ws (q .marks), lt-ltb a n (q .goalA), lt-ltb b n (q .goalB))
+    rw (accepts n m s (q .pack), ← q .pack .count, fits ws (q .marks), lt-ltb a n (q .goalA), lt-ltb b n (q .goalB))
 
 -- so it is taken with fewer marks too
 pub asks-fewer : (n m : ℕ) (s ws : List ℕ) (a b : ℕ) {k : ℕ} → checkQuestion n m s ws a b ≡ Count k → (ws′ : List ℕ) → length ws′ ≡ 16 → ((i : ℕ) → marked ws′ i ≡ true → marked ws i ≡ true) → checkQuestion n m s ws′ a b ≡ Count k

@@ -7,7 +7,8 @@ use Rattle.bits.proofs.Truth.{both-true, true-both, never}
 use Rattle.bits.proofs.SetLaws.{every-true, true-every, some-true, true-some}
 use Rattle.pack.specs.declared.line.Line.{Line}
 use Rattle.pack.specs.declared.line.Line.the-variants.{Under, BothUnder, UnderSome, SomeUnder, RoleUnder, ChainUnder, NoLine}
-use Rattle.pack.specs.World.{World, Is, To, ObeysLine, implies, obeysAt, obeys}
+use Rattle.pack.specs.World.{World, Is, To, ObeysLine}
+use Rattle.pack.specs.Computed.{implies, obeysAt, obeys}
 
 pub implies-true : (p q : Bool) → implies p q ≡ true → p ≡ true → q ≡ true
 unfolding implies

@@ -1,9 +1,10 @@
--- Document 01 in definitions. The meaning: World, Rules. The bytes: Bytes, Record. The answers: Answers, Pack, Question.
+-- Document 01 in definitions. The meaning: World, Rules. The bytes: Bytes, Record. What comes back: Table, Answers, Pack, Question.
 pub mod World
 pub mod Rules
 pub mod Bytes
 pub mod Record
+pub mod Table
 pub mod Answers
 pub mod Pack
 pub mod Question
-pub mod Table
+pub mod Computed

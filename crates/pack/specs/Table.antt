@@ -1,46 +1,26 @@
--- Document 01's table, row by row, for one input: whether the number applies, and the value that comes with it.
+-- What comes back from a call: document 01's table for one input, its rows in the order in which they are judged, each with its number.
 use mathlib.Core.Path.{_≡_}
-use mathlib.Core.Bool.{Bool, false, cond, not}
-use mathlib.Core.List.{List, [], _∷_, _++_}
-use Prim.Native.Nat.{ℕ, _+_}
-use Rattle.bits.specs.Sets.{some}
-use Rattle.marks.specs.Marks.{marksFit}
-use Rattle.pack.specs.Record.{keepsAt, recordCount}
-use Rattle.pack.specs.Pack.{sizesFit, lengthFits, lowestUnkept}
-use Rattle.pack.specs.Question.{goalFits}
+use mathlib.Core.Logic.{_⊎_}
+use mathlib.Core.List.{List, [], _∷_}
+use Prim.Native.Nat.{ℕ, _<_}
 
--- rows from number i on: where several apply, the lowest number is given, and 0 where none does
-unfoldable pub numberOf : ℕ → List (Bool × ℕ) → ℕ
-numberOf i [] = 0
-numberOf i (row ∷ rows) = cond (row .0) i (numberOf (i + 1) rows)
+-- a row: a number, when it applies, and the value that comes with it; or a number, and the lowest of so many that have a property
+pub data Row : Type 1 where
+  refuseWith : ℕ → Type 0 → ℕ → Row
+  refuseAt : ℕ → ℕ → (ℕ → Type 0) → Row
 
--- the value of that row, or what comes back otherwise
-unfoldable pub valueOf : ℕ → List (Bool × ℕ) → ℕ
-valueOf otherwise [] = otherwise
-valueOf otherwise (row ∷ rows) = cond (row .0) (row .1) (valueOf otherwise rows)
+-- a number that comes alone
+abbrev pub refuse : ℕ → Type 0 → Row
+refuse number applies = refuseWith number applies 0
 
--- an answer of this number and value is the table's
-abbrev pub Given : ℕ → ℕ → ℕ → List (Bool × ℕ) → Type 0
-Given number value otherwise table = (number ≡ numberOf 1 table) × (value ≡ valueOf otherwise table)
+-- the row applies, with this number and this value
+abbrev pub Gives : Row → ℕ → ℕ → Type 0
+Gives (refuseWith k applies v) number value = applies × (number ≡ k) × (value ≡ v)
+Gives (refuseAt k count P) number value = (number ≡ k) × (value < count) × P value × ((i : ℕ) → i < value → P i → ⊥)
 
--- a number that the table gives no value with; one of other calls alone
-abbrev pub plain : Bool → Bool × ℕ
-plain applies = (applies, 0)
-
-abbrev pub others : Bool × ℕ
-others = plain false
-
--- of a pack: 1 SIZES, 2 PACK, 3 RECORD with the lowest place
-abbrev pub packTable : ℕ → ℕ → List ℕ → List (Bool × ℕ)
-packTable n m s =
-    plain (not (sizesFit n m))
-    ∷ plain (not (lengthFits s))
-    ∷ (some (recordCount s) (λ i. not (keepsAt n m s i)), lowestUnkept n m s)
-    ∷ []
-
--- of a question, with what tells whether the marks fit a pack of so many records: then 4 MARKS, 5 GOAL
-abbrev pub askedTable : ℕ → ℕ → List ℕ → (ℕ → Bool) → ℕ → ℕ → List (Bool × ℕ)
-askedTable n m s fits a b = packTable n m s ++ (plain (not (fits (recordCount s))) ∷ plain (not (goalFits n a b)) ∷ [])
-
-abbrev pub questionTable : ℕ → ℕ → List ℕ → List ℕ → ℕ → ℕ → List (Bool × ℕ)
-questionTable n m s ws a b = askedTable n m s (marksFit ws) a b
+-- WHAT IS GIVEN: the first row that applies, with what a refusal keeps; where none does 0, with what comes back otherwise
+abbrev pub Given : Type 0 → List Row → (ℕ → Type 0) → ℕ → ℕ → Type 0
+Given kept [] otherwise number value = (number ≡ 0) × otherwise value
+Given kept (row ∷ rows) otherwise number value =
+    (Gives row number value × kept)
+    ⊎ (((k v : ℕ) → Gives row k v → ⊥) × Given kept rows otherwise number value)

@@ -1,10 +1,9 @@
 -- The meaning: worlds, what it is for a world to obey a line, and what follows.
 use mathlib.Core.Path.{_≡_}
-use mathlib.Core.Bool.{Bool, true, not, _&&_, _||_}
+use mathlib.Core.Bool.{Bool, true}
 use mathlib.Core.List.{List}
 use Prim.Native.Nat.{ℕ, _≤_, _<_}
 use lib.ListN.{length, getD}
-use Rattle.bits.specs.Sets.{every, some}
 use Rattle.pack.specs.declared.line.Line.{Line}
 use Rattle.pack.specs.declared.line.Line.the-variants.{Under, BothUnder, UnderSome, SomeUnder, RoleUnder, ChainUnder, NoLine}
 
@@ -42,19 +41,3 @@ Obeys w ls S = (i : ℕ) → i < length ls → S i ≡ true → ObeysLine w (lin
 -- every world of one thing or more that obeys them has each thing of a in b
 abbrev pub Follows : List Line → (ℕ → Bool) → ℕ → ℕ → Type 0
 Follows ls S a b = (w : World) → 1 ≤ w .things → Obeys w ls S → (x : ℕ) → x < w .things → Is w x a → Is w x b
-
--- the same as a test, thing by thing: a world's things are finitely many
-unfoldable pub implies : Bool → Bool → Bool
-implies p q = not p || q
-
-unfoldable pub obeysAt : World → Line → ℕ → Bool
-obeysAt w (Under a b) x = implies (w .isIn x a) (w .isIn x b)
-obeysAt w (BothUnder a₁ a₂ b) x = implies (w .isIn x a₁ && w .isIn x a₂) (w .isIn x b)
-obeysAt w (UnderSome a r b) x = implies (w .isIn x a) (some (w .things) (λ y. w .linked x r y && w .isIn y b))
-obeysAt w (SomeUnder r a b) x = implies (some (w .things) (λ y. w .linked x r y && w .isIn y a)) (w .isIn x b)
-obeysAt w (RoleUnder r s) x = every (w .things) (λ y. implies (w .linked x r y) (w .linked x s y))
-obeysAt w (ChainUnder r s t) x = every (w .things) (λ y. implies (w .linked x r y) (every (w .things) (λ z. implies (w .linked y s z) (w .linked x t z))))
-obeysAt w NoLine x = true
-
-unfoldable pub obeys : World → Line → Bool
-obeys w l = every (w .things) (obeysAt w l)

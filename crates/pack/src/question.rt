@@ -1,10 +1,9 @@
 // The question check: numbers 1 to 5 of document 01's table, else the record count.
 ghost use mathlib.Core.Path.{_≡_};
 ghost use Rattle.marks.specs.Marks.{marksFit};
-ghost use Rattle.pack.specs.Answers.{checkedNumber, checkedValue};
-ghost use Rattle.pack.specs.Record.{recordCount};
-ghost use Rattle.pack.specs.Question.{goalFits, checkCounted, checkQuestion};
-ghost use Rattle.pack.specs.Table.{Given, questionTable};
+ghost use Rattle.pack.specs.Question.{goalFits, GivesQuestion};
+ghost use Rattle.pack.specs.Computed.{checkCounted};
+ghost use Rattle.pack.specs.Answers.{checkedTold};
 use crate::check::Checked;
 use crate::check::Refusal;
 use crate::check::check_pack;
@@ -41,8 +40,7 @@ pub fn check_question<'a>(
     a: usize,
     b: usize,
 ) -> Checked
-    ensures answer { λ r. ⌜ r ≡ checkQuestion n m (now (pack .entry)) (now (marks .entry)) a b ⌝ }
-    ensures table { λ r. ⌜ Given (checkedNumber r) (checkedValue r) (recordCount (now (pack .entry))) (questionTable n m (now (pack .entry)) (now (marks .entry)) a b) ⌝ }
+    ensures { λ r. ⌜ GivesQuestion n m (now (pack .entry)) (now (marks .entry)) a b (checkedTold r .0) (checkedTold r .1) ⌝ }
 {
     let checked = check_pack(n, m, pack);
     match checked {

@@ -5,5 +5,5 @@ pub mod Lacking
 pub mod Exact
 pub mod PassLaws
 pub mod StopLaws
-pub mod YesLaws
-pub mod NoLaws
+pub mod StepsLaws
+pub mod RowsLaws

@@ -1,4 +1,4 @@
--- Laws of the printed set's words: what is picked from the module is the printed set, and nothing is where A is B; refused, or asked.
+-- Laws of the printed set's words: what is picked from the module is the printed set, and nothing is where A is B.
 use mathlib.Core.Path.{_≡_, refl, sym, ap, _∙_}
 use mathlib.Core.Bool.{Bool, true, false}
 use mathlib.Core.List.{List}
@@ -10,22 +10,17 @@ use Rattle.bits.specs.Bit.{row}
 use Rattle.bits.specs.Lists.{listed}
 use Rattle.bits.proofs.Truth.{never}
 use Rattle.marks.specs.Marks.{marked, marksOf}
-use Rattle.marks.proofs.WordLaws.{marks-length, marked-of, marked-past, marks-alike, marks-again}
-use Rattle.pack.specs.declared.check.Checked.the-variants as checked
-use Rattle.pack.specs.declared.check.Refusal.{Refusal}
-use Rattle.pack.specs.Question.{counted, Taken}
+use Rattle.marks.proofs.WordLaws.{marks-length, marks-alike, marks-again}
+use Rattle.pack.specs.Question.{counted}
+use Rattle.pack.specs.Computed.{Admitted}
 use Rattle.pack.specs.Record.{linesOf}
 use Rattle.pack.specs.World.{Follows}
 use Rattle.pack.proofs.QuestionLaws.{asked, asked-valid}
-use Rattle.passes.specs.Passes.{verdict}
-use Rattle.engine.specs.Verdict.{askVerdict}
-use Rattle.reasons.specs.declared.set.SetAnswer.the-variants as answer
-use Rattle.reasons.specs.Names.{TakenOf}
+use Rattle.passes.specs.Passes.{goalAtEnd}
+use Rattle.reasons.specs.Names.{AdmittedOf}
 use Rattle.reasons.specs.Printed.{IsPicked, IsPrinted, without}
-use Rattle.reasons.specs.Computed.{moduleOf, spared, picked, printed}
+use Rattle.reasons.specs.Computed.{moduleOf, spared, picked, printed, setMarks}
 use Rattle.reasons.specs.Reach.{IsModule}
-use Rattle.reasons.specs.OutMarks.{checkReason}
-use Rattle.reasons.specs.Set.{setMarks, setAfter, setOut, askSet, writtenSet}
 use Rattle.reasons.proofs.PickLaws.{without-true}
 use Rattle.reasons.proofs.PrintedLaws.{printed-is, printed-one}
 use Rattle.reasons.proofs.InsideLaws.{inside-true, module-follows, inside-printed}
@@ -49,17 +44,17 @@ clear-words : replicate 16 0 ≡ marksOf (λ _. false)
 unfolding marksOf listed row
 clear-words = refl
 
-module _ (n m : ℕ) (s ws : List ℕ) (a b : ℕ) (t : Taken n m s ws a b) (f : Follows (linesOf s) (counted s ws) a b) where
+module _ (n m : ℕ) (s ws : List ℕ) (a b : ℕ) (t : Admitted n m s ws a b) (f : Follows (linesOf s) (counted s ws) a b) where
   -- it is a question about a
-  about : TakenOf n m s ws a
+  about : AdmittedOf n m s ws a
   about = (b, t)
 
-  printed-fewer : (i : ℕ) → printed (linesOf s) (counted s ws) n m a b i ≡ true → counted s ws i ≡ true
+  pub printed-fewer : (i : ℕ) → printed (linesOf s) (counted s ws) n m a b i ≡ true → counted s ws i ≡ true
   unfolding printed picked
-  printed-fewer = spared-fewer (λ P. verdict (linesOf s) P n m a b) (length (linesOf s)) 0 (counted s ws)
+  printed-fewer = spared-fewer (λ P. goalAtEnd (linesOf s) P n m a b) (length (linesOf s)) 0 (counted s ws)
 
   -- past the pack's end nothing is marked
-  past-none : (P : ℕ → Bool) → ((i : ℕ) → P i ≡ true → counted s ws i ≡ true) → (i : ℕ) → length (linesOf s) ≤ i → P i ≡ false
+  pub past-none : (P : ℕ → Bool) → ((i : ℕ) → P i ≡ true → counted s ws i ≡ true) → (i : ℕ) → length (linesOf s) ≤ i → P i ≡ false
   past-none P fewer i l = go (P i) refl
     where
       go : (v : Bool) → P i ≡ v → v ≡ false
@@ -75,17 +70,6 @@ module _ (n m : ℕ) (s ws : List ℕ) (a b : ℕ) (t : Taken n m s ws a b) (f :
           printed-one (linesOf s) (counted s ws) a b (marked r) p (printed (linesOf s) (counted s ws) n m a b)
           (printed-is (linesOf s) n m a b (asked-valid n m s ws a b (t .1)) (asked n m s ws a b (t .1) .pack .n-some) (asked n m s ws a b (t .1) .goalA) (counted s ws) f) i l
       go i (no l) = past-none (marked r) fewer i (omega arith) ∙ sym (past-none (printed (linesOf s) (counted s ws) n m a b) printed-fewer i (omega arith))
-
-  -- of the set's words: each place that they mark counts, and none is past the records
-  pub words-within : (i : ℕ) → marked (setMarks n m s ws a b) i ≡ true → counted s ws i ≡ true
-  words-within i h = go (decLt i 1024)
-    where
-      go : Dec (i < 1024) → counted s ws i ≡ true
-      go (yes l) = printed-fewer i (sym (marked-of (printed (linesOf s) (counted s ws) n m a b) i l) ∙ h)
-      go (no l) = never h (marked-past (printed (linesOf s) (counted s ws) n m a b) i (omega arith))
-
-  pub words-past : (i : ℕ) → length (linesOf s) ≤ i → marked (setMarks n m s ws a b) i ≡ false
-  words-past = past-none (marked (setMarks n m s ws a b)) words-within
 
   -- A EQUAL TO B: no record is needed
   pub same-words : a ≡ b → replicate 16 0 ≡ setMarks n m s ws a b
@@ -108,7 +92,7 @@ module _ (n m : ℕ) (s ws : List ℕ) (a b : ℕ) (t : Taken n m s ws a b) (f :
         go (yes l) = inside-true (linesOf s) (counted s ws) (inside-module .names) i (sym (inside-module .places i l) ∙ h) .0
         go (no l) = never h (ap (λ (v : List ℕ). marked v i) e ∙ marks-past n m s ws a about i (omega arith))
 
-    pub inside-taken : Taken n m s inside a b
+    pub inside-taken : Admitted n m s inside a b
     inside-taken = fewer-taken n m s ws a b t inside (ap length e ∙ marks-length (moduleOf (linesOf s) (counted s ws) n m a)) inside-fewer
 
     pub inside-words : inside ≡ marksOf (marked inside)
@@ -122,21 +106,3 @@ module _ (n m : ℕ) (s ws : List ℕ) (a b : ℕ) (t : Taken n m s ws a b) (f :
     inside-set r w p =
         set-words r (w .0) (λ i h. inside-fewer i (w .1 i h))
         (inside-printed (linesOf s) (counted s ws) n m a b (asked-valid n m s ws a b (t .1)) (asked n m s ws a b (t .1) .pack .n-some) (asked n m s ws a b (t .1) .goalA) (marked inside) inside-module (marked r) p)
-
-module _ (n m : ℕ) (s ws : List ℕ) (a b : ℕ) (out : List ℕ) where
-  -- 1 TO 5: the out marks are as they were
-  pub set-refused : {why : Refusal} → checkReason n m s ws a b (length out) ≡ checked.Refused why → (askSet n m s ws a b out ≡ answer.Refused why) × (writtenSet n m s ws a b out ≡ out)
-  unfolding askSet writtenSet askVerdict
-  set-refused e = (rw e, rw e)
-
-  -- taken: the answer goes by the verdict
-  pub set-asked : {k : ℕ} → checkReason n m s ws a b (length out) ≡ checked.Count k
-      → (askSet n m s ws a b out ≡ setAfter (askVerdict n m s ws a b) (setMarks n m s ws a b))
-      × (writtenSet n m s ws a b out ≡ setOut (setAfter (askVerdict n m s ws a b) (setMarks n m s ws a b)) (setMarks n m s ws a b) out)
-  unfolding askSet writtenSet
-  set-asked e = (rw e, rw e)
-
-  -- of the out marks only the length is judged
-  pub set-length : (out′ : List ℕ) → length out ≡ length out′ → askSet n m s ws a b out ≡ askSet n m s ws a b out′
-  unfolding askSet
-  set-length out′ e = rw e

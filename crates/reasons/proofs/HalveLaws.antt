@@ -11,7 +11,7 @@ use Rattle.marks.specs.Marks.{marked, marksOf, cutOut}
 use Rattle.marks.proofs.MarkLaws.{next-lowest}
 use Rattle.marks.proofs.CutLaws.{cut-before, cut-after, cut-gone, cut-fewer, cut-marked}
 use Rattle.marks.proofs.WordLaws.{sixteen-again}
-use Rattle.reasons.specs.Printed.{Within, IsPicked}
+use Rattle.reasons.specs.Printed.{Subset, IsPicked}
 use Rattle.reasons.specs.Inner.{Between, Next}
 use Rattle.reasons.proofs.PickLaws.{Settled, Cut, cut-settled, cut-picked, kept-settled, settled-picked}
 
@@ -26,7 +26,7 @@ pub record Halved (len : ℕ) (F : (ℕ → Bool) → Type 0) (S T : ℕ → Boo
   pub settled : Settled len F i T
   picks : (P : ℕ → Bool) → IsPicked len F T P → IsPicked len F S P
 
-module _ (len : ℕ) (F : (ℕ → Bool) → Type 0) (mono : (P Q : ℕ → Bool) → Within len P Q → F P → F Q) where
+module _ (len : ℕ) (F : (ℕ → Bool) → Type 0) (mono : (P Q : ℕ → Bool) → Subset len P Q → F P → F Q) where
   pub halved-start : (S : ℕ → Bool) → F S → Halved len F S S 0
   halved-start S f = record { fewer = λ j h. h; holds = f; settled = λ Q w g j l. absurd (omega arith); picks = λ P p. p }
 
@@ -35,7 +35,7 @@ module _ (len : ℕ) (F : (ℕ → Bool) → Type 0) (mono : (P Q : ℕ → Bool
     halved-on : (k : ℕ) → ((j : ℕ) → i ≤ j → j < k → T j ≡ false) → Halved len F S T k
     halved-on k none = record { fewer = t .fewer; holds = t .holds; settled = λ Q w f j h l e. go Q w f j h l e (decLt j i); picks = t .picks }
       where
-        go : (Q : ℕ → Bool) → Within len Q T → F Q → (j : ℕ) → j < k → j < len → T j ≡ true → Dec (j < i) → Q j ≡ true
+        go : (Q : ℕ → Bool) → Subset len Q T → F Q → (j : ℕ) → j < k → j < len → T j ≡ true → Dec (j < i) → Q j ≡ true
         go Q w f j h l e (yes p) = t .settled Q w f j p l e
         go Q w f j h l e (no p) = never e (none j (omega arith) h)
 
@@ -104,7 +104,7 @@ pub record Rest (len : ℕ) (F : (ℕ → Bool) → Type 0) (S : ℕ → Bool) (
   pub words : ws ≡ marksOf (marked ws)
   pub halved : Halved len F S (marked ws) i
 
-module _ (len : ℕ) (F : (ℕ → Bool) → Type 0) (mono : (P Q : ℕ → Bool) → Within len P Q → F P → F Q) (most : len ≤ 1024) (S : ℕ → Bool) (ws : List ℕ) where
+module _ (len : ℕ) (F : (ℕ → Bool) → Type 0) (mono : (P Q : ℕ → Bool) → Subset len P Q → F P → F Q) (most : len ≤ 1024) (S : ℕ → Bool) (ws : List ℕ) where
   -- up to the next marked place
   pub rest-on : (i k : ℕ) → Rest len F S ws i → k ≡ lowest (marked ws) i (1024 - i) → Rest len F S ws k
   rest-on i k t e = record { words = t .words; halved = halved-on len F mono S (marked ws) i (t .halved) k (next-lowest ws i k e .none) }

@@ -14,12 +14,12 @@ use Rattle.pack.specs.declared.line.Fact.{Fact}
 use Rattle.pack.specs.declared.line.Fact.the-variants.{In, Link}
 use Rattle.pack.specs.World.{Follows, lineAt}
 use Rattle.pack.specs.Record.{Valid}
-use Rattle.pack.specs.Rules.{premiseOne, premiseTwo, conclusion, premiseOneOf, Derived, given, by, free}
+use Rattle.pack.specs.Rules.{ruleOf, premiseOneOf, Derived, given, by, free}
 use Rattle.pack.proofs.RuleLaws.{usable-is, usable-more}
 use Rattle.pack.proofs.Soundness.{derived-follows}
-use Rattle.passes.specs.Passes.{verdict}
+use Rattle.passes.specs.Passes.{goalAtEnd}
 use Rattle.passes.proofs.PassLaws.{table-holds, decides}
-use Rattle.reasons.specs.Printed.{Within, IsMinimal, IsPrinted}
+use Rattle.reasons.specs.Printed.{Subset, IsMinimal, IsPrinted}
 use Rattle.reasons.specs.Computed.{printed}
 use Rattle.reasons.specs.Reach.{Name, concept, role, leftNames, rightNames, allIn, moduleIn, IsModule}
 use Rattle.reasons.proofs.PickLaws.{picked-same}
@@ -48,8 +48,8 @@ module _ (R : Name → Bool) where
   head x xs h = both-true (R x) (allIn R xs) h
 
   -- one step about a reached X: the left side is reached, premise two is about a reached concept, and with the right side the conclusion is said
-  step-said : (l : Line) (x y z : ℕ) → R (concept x) ≡ true → Said R (premiseOne l x y) → (R (concept (about (premiseTwo l x y z))) ≡ true → Said R (premiseTwo l x y z))
-      → (allIn R (leftNames l) ≡ true) × (R (concept (about (premiseTwo l x y z))) ≡ true) × (allIn R (rightNames l) ≡ true → Said R (conclusion l x y z))
+  step-said : (l : Line) (x y z : ℕ) → R (concept x) ≡ true → Said R (ruleOf l x y z .one) → (R (concept (about (ruleOf l x y z .two))) ≡ true → Said R (ruleOf l x y z .two))
+      → (allIn R (leftNames l) ≡ true) × (R (concept (about (ruleOf l x y z .two))) ≡ true) × (allIn R (rightNames l) ≡ true → Said R (ruleOf l x y z .gives))
   unfolding allIn
   step-said (Under a b) x y z k h₁ h₂ = (all-one (concept a) h₁, k, λ r. head (concept b) [] r .0)
   step-said (BothUnder a₁ a₂ b) x y z k h₁ h₂ = (all-both (concept a₁) (concept a₂) h₁ (h₂ k), k, λ r. head (concept b) [] r .0)
@@ -62,7 +62,7 @@ module _ (R : Name → Bool) where
       (all-both (role s) (role t) (h₁ .0) (p .0), h₁ .1, λ r. (head (role u) [] r .0, p .1))
   step-said NoLine x y z k h₁ h₂ = (refl, k, λ r. h₁)
 
-abouts : (l : Line) (x y z : ℕ) → (about (premiseOne l x y) ≡ x) × (about (conclusion l x y z) ≡ x)
+abouts : (l : Line) (x y z : ℕ) → (about (ruleOf l x y z .one) ≡ x) × (about (ruleOf l x y z .gives) ≡ x)
 abouts (Under a b) x y z = (refl, refl)
 abouts (BothUnder a₁ a₂ b) x y z = (refl, refl)
 abouts (UnderSome a r b) x y z = (refl, refl)
@@ -107,18 +107,18 @@ module _ (ls : List Line) (S : ℕ → Bool) (R : Name → Bool) where
 
 module _ (ls : List Line) (n m a b : ℕ) (valid : Valid n m ls) (pos : 1 ≤ n) (ha : a < n) (R : Name → Bool) (start : R (concept a) ≡ true) where
   going-follows : (S : ℕ → Bool) → Going ls S R → Follows ls S a b → Follows ls (moduleIn ls S R) a b
-  unfolding verdict
+  unfolding goalAtEnd
   going-follows S goes f =
       derived-follows ls (moduleIn ls S R) n a b
       (derived-inside ls S R n goes (table-holds ls S n m valid (In a b) .0 (decides ls S n m valid pos a b ha .1 f)) start .0)
 
-  minimal-going : (S P : ℕ → Bool) → Going ls S R → Within (length ls) P S → IsMinimal (length ls) (λ Q. Follows ls Q a b) P → Within (length ls) P (moduleIn ls S R)
+  minimal-going : (S P : ℕ → Bool) → Going ls S R → Subset (length ls) P S → IsMinimal (length ls) (λ Q. Follows ls Q a b) P → Subset (length ls) P (moduleIn ls S R)
   minimal-going S P goes w p i l h =
       let q = p .whole (moduleIn ls P R) (λ j _ g. inside-true ls P R j g .0) (going-follows P (λ j lj mj. goes j lj (w j lj mj)) (p .holds)) i l h in
       true-inside ls S R i (w i l h) (inside-true ls P R i q .1)
 
 module _ (ls : List Line) (S : ℕ → Bool) (n m a b : ℕ) (valid : Valid n m ls) (pos : 1 ≤ n) (ha : a < n) (M : ℕ → Bool) (im : IsModule ls S a M) where
-  module-within : Within (length ls) M S
+  module-within : Subset (length ls) M S
   module-within i l h = inside-true ls S (im .names) i (sym (im .places i l) ∙ h) .0
 
   -- THE GOAL FOLLOWS EXACTLY WHERE IT FOLLOWS FROM THE MODULE
@@ -129,7 +129,7 @@ module _ (ls : List Line) (S : ℕ → Bool) (n m a b : ℕ) (valid : Valid n m 
   )
 
   -- EVERY MINIMAL SET LIES INSIDE THE MODULE
-  pub minimal-inside : (P : ℕ → Bool) → Within (length ls) P S → IsMinimal (length ls) (λ Q. Follows ls Q a b) P → Within (length ls) P M
+  pub minimal-inside : (P : ℕ → Bool) → Subset (length ls) P S → IsMinimal (length ls) (λ Q. Follows ls Q a b) P → Subset (length ls) P M
   minimal-inside P w p i l h =
       im .places i l ∙ minimal-going ls n m a b valid pos ha (im .names) (im .reached .reaches .start) S P (im .reached .reaches .goes) w p i l h
 

@@ -1,4 +1,4 @@
--- Laws of the module call: the words that it finds, that they mark exactly the module, and that no second answer keeps its promise.
+-- Laws of the module: the words that are found mark exactly the module, and no place past the records.
 use mathlib.Core.Path.{_≡_, refl, sym, _∙_}
 use mathlib.Core.Bool.{Bool, true, false}
 use mathlib.Core.List.{List}
@@ -6,13 +6,9 @@ use Prim.Native.Nat.{ℕ, _≤_, _<_}
 use native.Mathlib.Decide.{decLt}
 use native.Mathlib.Omega.{arith}
 use lib.ListN.{length}
-use Rattle.bits.proofs.Promises.{no-second}
 use Rattle.bits.proofs.Truth.{never}
-use Rattle.marks.specs.Marks.{marked, markCount, marksOf}
-use Rattle.marks.proofs.WordLaws.{marks-length, marked-of, marked-past, marks-alike}
-use Rattle.pack.specs.declared.check.Checked.{Checked}
-use Rattle.pack.specs.declared.check.Checked.the-variants.{Refused, Count}
-use Rattle.pack.specs.declared.check.Refusal.{Refusal}
+use Rattle.marks.specs.Marks.{marked, marksOf}
+use Rattle.marks.proofs.WordLaws.{marked-of, marked-past, marks-alike}
 use Rattle.pack.specs.declared.line.Line.{Line}
 use Rattle.pack.specs.declared.line.Line.the-variants.{Under, BothUnder, UnderSome, SomeUnder, RoleUnder, ChainUnder, NoLine}
 use Rattle.pack.specs.Question.{counted}
@@ -21,11 +17,8 @@ use Rattle.pack.specs.World.{lineAt}
 use Rattle.pack.proofs.QuestionLaws.{Asked, asked, asked-valid}
 use Rattle.pack.proofs.RecordLaws.{lines-length}
 use Rattle.reasons.specs.Reach.{Name, moduleIn, IsModule}
-use Rattle.reasons.specs.Computed.{reached, moduleOf}
-use Rattle.reasons.specs.Names.{TakenOf}
-use Rattle.reasons.specs.OutMarks.{checkReason}
-use Rattle.reasons.specs.Module.{moduleMarks, moduleAnswer, askModule, writtenModule}
-use Rattle.reasons.proofs.OutLaws.{reason-taken}
+use Rattle.reasons.specs.Computed.{reached, moduleOf, moduleMarks}
+use Rattle.reasons.specs.Names.{AdmittedOf}
 use Rattle.reasons.proofs.ReachLaws.{module-is, module-one}
 
 module _ (ls : List Line) (S : ℕ → Bool) (R : Name → Bool) where
@@ -45,11 +38,11 @@ line-most n m h g (ChainUnder r s t) v = (omega arith, omega arith, omega arith)
 line-most n m h g NoLine v = v
 
 -- of a question about a that is taken
-module _ (n m : ℕ) (s ws : List ℕ) (a : ℕ) (taken : TakenOf n m s ws a) where
+module _ (n m : ℕ) (s ws : List ℕ) (a : ℕ) (taken : AdmittedOf n m s ws a) where
   pub asked-of : Asked n m s ws a (taken .0) (taken .1 .0)
   asked-of = asked n m s ws a (taken .0) (taken .1 .1)
 
-  lines-right : Valid n m (linesOf s)
+  pub lines-right : Valid n m (linesOf s)
   lines-right = asked-valid n m s ws a (taken .0) (taken .1 .1)
 
   pub lines-widest : Valid 64 8 (linesOf s)
@@ -60,7 +53,7 @@ module _ (n m : ℕ) (s ws : List ℕ) (a : ℕ) (taken : TakenOf n m s ws a) wh
   none-past i h = asked-of .marks .above i (omega (arith, lines-length s, asked-of .pack .count))
 
   -- the module has no place past the records
-  module-past : (i : ℕ) → length (linesOf s) ≤ i → moduleOf (linesOf s) (counted s ws) n m a i ≡ false
+  pub module-past : (i : ℕ) → length (linesOf s) ≤ i → moduleOf (linesOf s) (counted s ws) n m a i ≡ false
   unfolding moduleOf
   module-past i h = outside-unmarked (linesOf s) (counted s ws) (reached (linesOf s) (counted s ws) n m a) i (none-past i h)
 
@@ -92,60 +85,3 @@ module _ (n m : ℕ) (s ws : List ℕ) (a : ℕ) (taken : TakenOf n m s ws a) wh
       go : Dec (i < 1024) → marked (moduleMarks n m s ws a) i ≡ false
       go (yes l) = marked-of (moduleOf (linesOf s) (counted s ws) n m a) i l ∙ module-past i h
       go (no l) = marked-past (moduleOf (linesOf s) (counted s ws) n m a) i (omega arith)
-
--- the 16 words mark exactly the module for a, nothing past the records, and k places
-pub record MarksModule (s ws : List ℕ) (a k : ℕ) (out : List ℕ) : Type 0 where
-  pub sixteen : length out ≡ 16
-  pub places : IsModule (linesOf s) (counted s ws) a (marked out)
-  pub past : (i : ℕ) → length (linesOf s) ≤ i → marked out i ≡ false
-  pub count : k ≡ markCount out
-
--- the answer and the out marks
-module _ (n m : ℕ) (s ws : List ℕ) (a : ℕ) (out : List ℕ) where
-  -- WHERE THE QUESTION IS TAKEN the module's words are written and counted
-  pub module-taken : {k : ℕ} → checkReason n m s ws a a (length out) ≡ Count k
-      → (askModule n m s ws a out ≡ Count (markCount (moduleMarks n m s ws a))) × (writtenModule n m s ws a out ≡ moduleMarks n m s ws a)
-  unfolding askModule writtenModule
-  module-taken h = (rw h, rw h)
-
-  -- A REFUSAL is that of the question, and leaves the out marks as they were
-  pub module-refused : {why : Refusal} → checkReason n m s ws a a (length out) ≡ Refused why → (askModule n m s ws a out ≡ Refused why) × (writtenModule n m s ws a out ≡ out)
-  unfolding askModule writtenModule
-  module-refused h = (rw h, rw h)
-
-  -- a count is given only where the question is taken
-  module-counted : {k : ℕ} → askModule n m s ws a out ≡ Count k → (j : ℕ) × (checkReason n m s ws a a (length out) ≡ Count j)
-  unfolding askModule
-  module-counted {k} e = go (checkReason n m s ws a a (length out)) refl e
-    where
-      go : (r : Checked) → checkReason n m s ws a a (length out) ≡ r → moduleAnswer r (moduleMarks n m s ws a) ≡ Count k → (j : ℕ) × (checkReason n m s ws a a (length out) ≡ Count j)
-      go (Refused why) h g = let z : _≡_ {A = ℕ} 0 1 = cc in absurd (omega arith)
-      go (Count j) h g = (j, h)
-
-  pub module-written : {k : ℕ} → askModule n m s ws a out ≡ Count k → writtenModule n m s ws a out ≡ moduleMarks n m s ws a
-  unfolding writtenModule
-  module-written e = rw e
-
-  -- THE MODULE CALL IS RIGHT: where it counts, the out marks mark exactly the module, and so many places
-  pub module-right : {k : ℕ} → askModule n m s ws a out ≡ Count k → MarksModule s ws a k (writtenModule n m s ws a out)
-  module-right {k} e =
-      let c = module-counted e in
-      let t = module-taken (c .1) in
-      let taken : TakenOf n m s ws a = (a, (c .0, reason-taken n m s ws a a (length out) (c .1) .1)) in
-      let same : k ≡ markCount (moduleMarks n m s ws a) = cc in
-      rw (t .1)
-      (record {
-        sixteen = marks-length (moduleOf (linesOf s) (counted s ws) n m a);
-        places = marks-module n m s ws a taken;
-        past = marks-past n m s ws a taken;
-        count = same;
-      })
-
-  -- of the out marks only the length is judged
-  pub module-length : (out′ : List ℕ) → length out ≡ length out′ → askModule n m s ws a out ≡ askModule n m s ws a out′
-  unfolding askModule
-  module-length out′ e = rw e
-
-  -- NO SECOND RESULT AND NO SECOND CONTENT OF THE OUT MARKS keeps the promise
-  pub module-fixed : (out₁ out₂ : List ℕ) (r r′ : Checked) → (r ≡ askModule n m s ws a out) × (out₁ ≡ writtenModule n m s ws a out) → (r′ ≡ askModule n m s ws a out) × (out₂ ≡ writtenModule n m s ws a out) → (r ≡ r′) × (out₁ ≡ out₂)
-  module-fixed out₁ out₂ r r′ p q = (no-second (p .0) (q .0), no-second (p .1) (q .1))

@@ -8,7 +8,7 @@ use native.Mathlib.Omega.{arith}
 use lib.Dec.{eqb}
 use borrow.Author.Tests.{eqb-false, eq-eqb, ne-eqb, not-true}
 use Rattle.bits.proofs.Truth.{both-true, and-no, never}
-use Rattle.reasons.specs.Printed.{Within, Differ, IsPicked, IsMinimal, without}
+use Rattle.reasons.specs.Printed.{Subset, Differ, IsPicked, IsMinimal, without}
 use Rattle.reasons.specs.Computed.{spared, picked}
 
 -- one place taken out
@@ -26,7 +26,7 @@ module _ (S : ℕ → Bool) (i : ℕ) where
   without-self = rw (eq-eqb i i refl) (and-no (S i) false refl)
 
   -- a subset that lacks the place
-  without-within : (len : ℕ) (Q : ℕ → Bool) → Within len Q S → Q i ≡ false → Within len Q (without S i)
+  without-within : (len : ℕ) (Q : ℕ → Bool) → Subset len Q S → Q i ≡ false → Subset len Q (without S i)
   without-within len Q w e j l h = without-other j (λ z. never h (ap Q z ∙ e)) ∙ w j l h
 
 module _ (len : ℕ) (F : (ℕ → Bool) → Type 0) (S P : ℕ → Bool) (p : IsPicked len F S P) where
@@ -56,7 +56,7 @@ module _ (len : ℕ) (F : (ℕ → Bool) → Type 0) (S P : ℕ → Bool) (p : I
 
 -- every subset of T with F has the places of T below i
 abbrev pub Settled : ℕ → ((ℕ → Bool) → Type 0) → ℕ → (ℕ → Bool) → Type 0
-Settled len F i T = (Q : ℕ → Bool) → Within len Q T → F Q → (j : ℕ) → j < i → j < len → T j ≡ true → Q j ≡ true
+Settled len F i T = (Q : ℕ → Bool) → Subset len Q T → F Q → (j : ℕ) → j < i → j < len → T j ≡ true → Q j ≡ true
 
 -- T′ is T but for the places from i on and below k
 pub record Cut (len i k : ℕ) (T T′ : ℕ → Bool) : Type 0 where
@@ -65,7 +65,7 @@ pub record Cut (len i k : ℕ) (T T′ : ℕ → Bool) : Type 0 where
   pub after : (j : ℕ) → k ≤ j → j < len → T′ j ≡ T j
 
 module _ (len i k : ℕ) (T T′ : ℕ → Bool) (cut : Cut len i k T T′) where
-  cut-within : Within len T′ T
+  cut-within : Subset len T′ T
   cut-within j l h = go (decLt j i) (decLt j k)
     where
       go : Dec (j < i) → Dec (j < k) → T j ≡ true
@@ -73,7 +73,7 @@ module _ (len i k : ℕ) (T T′ : ℕ → Bool) (cut : Cut len i k T T′) wher
       go (no p) (yes q) = never h (cut .gone j (omega arith) q)
       go (no p) (no q) = sym (cut .after j (omega arith) l) ∙ h
 
-  within-cut : (Q : ℕ → Bool) → Within len Q T → ((j : ℕ) → i ≤ j → j < k → j < len → Q j ≡ false) → Within len Q T′
+  within-cut : (Q : ℕ → Bool) → Subset len Q T → ((j : ℕ) → i ≤ j → j < k → j < len → Q j ≡ false) → Subset len Q T′
   within-cut Q w lacks j l h = go (decLt j i) (decLt j k)
     where
       go : Dec (j < i) → Dec (j < k) → T′ j ≡ true
@@ -82,7 +82,7 @@ module _ (len i k : ℕ) (T T′ : ℕ → Bool) (cut : Cut len i k T T′) wher
       go (no p) (no q) = cut .after j (omega arith) l ∙ w j l h
 
   module _ (F : (ℕ → Bool) → Type 0) (settled : Settled len F i T) where
-    cut-below : (Q : ℕ → Bool) → Within len Q T′ → F Q → (j : ℕ) → j < i → j < len → T′ j ≡ true → Q j ≡ true
+    cut-below : (Q : ℕ → Bool) → Subset len Q T′ → F Q → (j : ℕ) → j < i → j < len → T′ j ≡ true → Q j ≡ true
     cut-below Q w f j p l h = settled Q (λ x lx hx. cut-within x lx (w x lx hx)) f j p l (cut-within j l h)
 
     -- what is left is settled up to k
@@ -97,7 +97,7 @@ module _ (len i k : ℕ) (T T′ : ℕ → Bool) (cut : Cut len i k T T′) wher
     pub cut-picked : (P : ℕ → Bool) → IsPicked len F T′ P → IsPicked len F T P
     cut-picked P p = record { within = λ j l h. cut-within j l (p .within j l h); holds = p .holds; lacks = λ Q w f d x. lacks Q w f d x (P d) refl }
       where
-        lacks : (Q : ℕ → Bool) → Within len Q T → F Q → (d : ℕ) → Differ len P Q d → (t : Bool) → P d ≡ t → P d ≡ false
+        lacks : (Q : ℕ → Bool) → Subset len Q T → F Q → (d : ℕ) → Differ len P Q d → (t : Bool) → P d ≡ t → P d ≡ false
         lacks Q w f d x false e = e
         lacks Q w f d x true e = go (decLt d i) (decLt d k)
           where
@@ -114,7 +114,7 @@ module _ (len i k : ℕ) (T T′ : ℕ → Bool) (cut : Cut len i k T T′) wher
                     again false h = refl
 
 -- A PLACE THAT CANNOT BE SPARED IS KEPT
-pub kept-settled : (len i : ℕ) (T T′ : ℕ → Bool) → Cut len i (i + 1) T T′ → (F : (ℕ → Bool) → Type 0) → ((P Q : ℕ → Bool) → Within len P Q → F P → F Q) → (F T′ → ⊥) → Settled len F i T → Settled len F (i + 1) T
+pub kept-settled : (len i : ℕ) (T T′ : ℕ → Bool) → Cut len i (i + 1) T T′ → (F : (ℕ → Bool) → Type 0) → ((P Q : ℕ → Bool) → Subset len P Q → F P → F Q) → (F T′ → ⊥) → Settled len F i T → Settled len F (i + 1) T
 kept-settled len i T T′ cut F mono lost settled Q w f j q l h = go (ℕ-discrete j i) (Q j) refl
   where
     go : Dec (j ≡ i) → (t : Bool) → Q j ≡ t → t ≡ true
@@ -126,7 +126,7 @@ kept-settled len i T T′ cut F mono lost settled Q w f j q l h = go (ℕ-discre
 pub settled-picked : (len : ℕ) (F : (ℕ → Bool) → Type 0) (T : ℕ → Bool) → Settled len F len T → F T → IsPicked len F T T
 settled-picked len F T settled f = record { within = λ i l h. h; holds = f; lacks = λ Q w g i d. go Q w g i d (T i) refl }
   where
-    go : (Q : ℕ → Bool) → Within len Q T → F Q → (i : ℕ) → Differ len T Q i → (t : Bool) → T i ≡ t → t ≡ false
+    go : (Q : ℕ → Bool) → Subset len Q T → F Q → (i : ℕ) → Differ len T Q i → (t : Bool) → T i ≡ t → t ≡ false
     go Q w g i d true e = absurd (d .here (e ∙ sym (settled Q w g i (d .inside) (d .inside) e)))
     go Q w g i d false e = refl
 
@@ -137,12 +137,12 @@ without-cut len i S = record {
   after = λ j g _. without-other S i j (omega arith);
 }
 
-module _ (len : ℕ) (F : (ℕ → Bool) → Type 0) (mono : (P Q : ℕ → Bool) → Within len P Q → F P → F Q) where
+module _ (len : ℕ) (F : (ℕ → Bool) → Type 0) (mono : (P Q : ℕ → Bool) → Subset len P Q → F P → F Q) where
   -- so no smaller subset has F
   pub picked-minimal : (S P : ℕ → Bool) → IsPicked len F S P → IsMinimal len F P
   picked-minimal S P p = record { holds = p .holds; whole = λ Q w f i l h. go Q w f i l h (Q i) refl }
     where
-      go : (Q : ℕ → Bool) → Within len Q P → F Q → (i : ℕ) → i < len → P i ≡ true → (t : Bool) → Q i ≡ t → Q i ≡ true
+      go : (Q : ℕ → Bool) → Subset len Q P → F Q → (i : ℕ) → i < len → P i ≡ true → (t : Bool) → Q i ≡ t → Q i ≡ true
       go Q w f i l h true e = e
       go Q w f i l h false e = absurd (picked-needs len F S P p i l h (mono Q (without P i) (without-within P i len Q w e) f))
 

@@ -8,14 +8,14 @@ use lib.ListN.{length}
 use Rattle.pack.specs.declared.line.Line.{Line}
 use Rattle.pack.specs.World.{Follows}
 use Rattle.pack.specs.Record.{Valid}
-use Rattle.passes.specs.Passes.{verdict}
+use Rattle.passes.specs.Passes.{goalAtEnd}
 use Rattle.passes.proofs.PassLaws.{decides}
-use Rattle.reasons.specs.Printed.{Within, IsMinimal, IsPrinted, without}
+use Rattle.reasons.specs.Printed.{Subset, IsMinimal, IsPrinted, without}
 use Rattle.reasons.specs.Computed.{printed}
 use Rattle.reasons.proofs.PickLaws.{picked-one, picked-needs, picked-minimal, picked-is, picked-exists}
 
 -- WHAT FOLLOWS FROM A SET FOLLOWS FROM A LARGER ONE
-pub follows-more : (ls : List Line) (a b : ℕ) (P Q : ℕ → Bool) → Within (length ls) P Q → Follows ls P a b → Follows ls Q a b
+pub follows-more : (ls : List Line) (a b : ℕ) (P Q : ℕ → Bool) → Subset (length ls) P Q → Follows ls P a b → Follows ls Q a b
 follows-more ls a b P Q h f = λ w k o. f w k (λ i l p. o i l (h i l p))
 
 module _ (ls : List Line) (S : ℕ → Bool) (a b : ℕ) (P : ℕ → Bool) (p : IsPrinted ls S a b P) where
@@ -34,8 +34,8 @@ module _ (ls : List Line) (n m a b : ℕ) (valid : Valid n m ls) (pos : 1 ≤ n)
   -- DELETION WITH THE VERDICT FINDS IT
   pub printed-is : Follows ls S a b → IsPrinted ls S a b (printed ls S n m a b)
   unfolding printed
-  printed-is = picked-is (length ls) (λ P. Follows ls P a b) (follows-more ls a b) (λ P. verdict ls P n m a b) (λ P. decides ls P n m valid pos a b ha) S
+  printed-is = picked-is (length ls) (λ P. Follows ls P a b) (follows-more ls a b) (λ P. goalAtEnd ls P n m a b) (λ P. decides ls P n m valid pos a b ha) S
 
   -- THERE IS ONE EXACTLY WHEN THE GOAL FOLLOWS
   pub printed-exists : ((P : ℕ → Bool) × IsPrinted ls S a b P) ↔ Follows ls S a b
-  printed-exists = picked-exists (length ls) (λ P. Follows ls P a b) (follows-more ls a b) (λ P. verdict ls P n m a b) (λ P. decides ls P n m valid pos a b ha) S
+  printed-exists = picked-exists (length ls) (λ P. Follows ls P a b) (follows-more ls a b) (λ P. goalAtEnd ls P n m a b) (λ P. decides ls P n m valid pos a b ha) S

@@ -1,17 +1,25 @@
--- Computed: the module and the printed set as they can be worked out. `moduleOf` is `IsModule` by `module-is`, and `printed`
--- is `IsPrinted` by `printed-is`; what both mean is said on the pages Reach and Printed.
-use mathlib.Core.Bool.{Bool, true, false}
+-- The module, the printed set and the question check of their calls, as they are worked out. Only functions that
+-- docs/PROMISES.md lists as inner cite this page. `moduleOf` is the module by `module-is`, `printed` the printed set by
+-- `printed-is`.
 use mathlib.Core.List.{List, []}
+use mathlib.Core.Bool.{Bool, true, false, _&&_}
 use Prim.Native.Nat.{ℕ, zero, suc, _+_}
 use lib.Dec.{eqb}
 use lib.ListN.{length, getD}
+use Rattle.marks.specs.Marks.{marksFit, marksOf}
+use Rattle.pack.specs.declared.check.Checked.{Checked}
+use Rattle.pack.specs.Record.{linesOf, recordCount}
+use Rattle.pack.specs.Computed.{checkPack, afterPack}
 use Rattle.pack.specs.declared.line.Line.{Line}
+use Rattle.pack.specs.Question.{counted}
 use Rattle.pack.specs.World.{lineAt}
+use Rattle.passes.specs.Passes.{goalAtEnd}
 use Rattle.passes.specs.Loop.{loop, gate}
-use Rattle.passes.specs.Passes.{verdict}
 use Rattle.passes.specs.Saturation.{System, holds, attempt, runs}
 use Rattle.reasons.specs.Printed.{without}
 use Rattle.reasons.specs.Reach.{Name, concept, role, leftNames, rightNames, moduleIn}
+use Rattle.reasons.specs.declared.set.SetAnswer.{SetAnswer}
+use Rattle.reasons.specs.Set.{setTold}
 
 -- found by saturation: a step is a place and which of the names on its right side, the first or the second
 pub record Arrow : Type 0 where
@@ -67,4 +75,23 @@ picked D len S = spared D len 0 S
 
 -- with the verdict: each marked record goes, in turn, without which the goal still follows
 unfoldable pub printed : List Line → (ℕ → Bool) → ℕ → ℕ → ℕ → ℕ → ℕ → Bool
-printed ls S n m a b = picked (λ P. verdict ls P n m a b) (length ls) S
+printed ls S n m a b = picked (λ P. goalAtEnd ls P n m a b) (length ls) S
+
+-- 1 to 5, else the record count, where so many words are lent for the out marks
+unfoldable pub checkReason : ℕ → ℕ → List ℕ → List ℕ → ℕ → ℕ → ℕ → Checked
+checkReason n m s ws a b words = afterPack (checkPack n m s) n (marksFit ws (recordCount s) && eqb words 16) a b
+
+-- the marks of the module for a
+abbrev pub moduleMarks : ℕ → ℕ → List ℕ → List ℕ → ℕ → List ℕ
+moduleMarks n m s ws a = marksOf (moduleOf (linesOf s) (counted s ws) n m a)
+
+-- the marks of the printed set
+abbrev pub setMarks : ℕ → ℕ → List ℕ → List ℕ → ℕ → ℕ → List ℕ
+setMarks n m s ws a b = marksOf (printed (linesOf s) (counted s ws) n m a b)
+
+-- the number and the value of the set call's answer apart
+abbrev pub setNumber : SetAnswer → ℕ
+setNumber r = setTold r .0
+
+abbrev pub setValue : SetAnswer → ℕ
+setValue r = setTold r .1

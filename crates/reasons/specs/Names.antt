@@ -8,7 +8,7 @@ use lib.ListN.{length}
 use Rattle.bits.specs.Bit.{has, withBit}
 use Rattle.marks.specs.Marks.{marked}
 use Rattle.pack.specs.declared.line.Line.{Line}
-use Rattle.pack.specs.Question.{Taken}
+use Rattle.pack.specs.Computed.{Admitted}
 use Rattle.pack.specs.World.{lineAt}
 use Rattle.reasons.specs.declared.reach.Names.{Names}
 use Rattle.reasons.specs.Reach.{Name, concept, role, leftNames, rightNames, allIn, Reaches}
@@ -86,5 +86,5 @@ pub record Fresh (names done : Names) (x : ℕ) : Type 0 where
   pub none : x ≡ 128 → Inside (nameIn names) (nameIn done)
 
 -- a question about a, with some b, is taken
-abbrev pub TakenOf : ℕ → ℕ → List ℕ → List ℕ → ℕ → Type 0
-TakenOf n m s ws a = (b : ℕ) × Taken n m s ws a b
+abbrev pub AdmittedOf : ℕ → ℕ → List ℕ → List ℕ → ℕ → Type 0
+AdmittedOf n m s ws a = (b : ℕ) × Admitted n m s ws a b

@@ -5,10 +5,11 @@ ghost use Prim.Native.Nat.{ℕ, _+_, _-_, _<_, _≤_};
 ghost use lib.ListN.{length};
 ghost use Rattle.bits.specs.Sets.{lowest};
 ghost use Rattle.marks.specs.Marks.{marked, marksOf, cutOut};
-ghost use Rattle.pack.specs.Question.{counted, Taken};
+ghost use Rattle.pack.specs.Question.{counted};
+ghost use Rattle.pack.specs.Computed.{Admitted};
 ghost use Rattle.pack.specs.Record.{linesOf};
 ghost use Rattle.pack.specs.World.{Follows};
-ghost use Rattle.passes.specs.Passes.{verdict};
+ghost use Rattle.passes.specs.Passes.{goalAtEnd};
 ghost use Rattle.reasons.specs.Printed.{IsPicked};
 ghost use Rattle.reasons.specs.Inner.{Between, Next};
 use engine::verdict::goal_follows;
@@ -32,8 +33,8 @@ fn goes_without<'a>(
     i: usize,
     k: usize,
 ) -> bool
-    requires { ⌜ Taken n m (now pack) (now marks) a b × (a ≡ b → ⊥) ⌝ }
-    ensures { λ r. ⌜ r ≡ verdict (linesOf (now (pack .entry))) (cutOut (counted (now (pack .entry)) (now (marks .entry))) i k) n m a b ⌝ }
+    requires { ⌜ Admitted n m (now pack) (now marks) a b × (a ≡ b → ⊥) ⌝ }
+    ensures { λ r. ⌜ r ≡ goalAtEnd (linesOf (now (pack .entry))) (cutOut (counted (now (pack .entry)) (now (marks .entry))) i k) n m a b ⌝ }
 {
     let trial = cut_marks(marks, i, k);
     goal_follows(n, m, pack, &trial, a, b)
@@ -64,7 +65,7 @@ fn half_of<'a>(
     i: usize,
     range: Range,
 ) -> Range
-    requires { ⌜ Taken n m (now pack) (now marks) a b × (a ≡ b → ⊥) × Between (λ P. Follows (linesOf (now pack)) P a b) (counted (now pack) (now marks)) i (range .from) (range .to) × (lowest (marked (now marks)) (range .from + 1) (1024 - (range .from + 1)) < range .to) ⌝ }
+    requires { ⌜ Admitted n m (now pack) (now marks) a b × (a ≡ b → ⊥) × Between (λ P. Follows (linesOf (now pack)) P a b) (counted (now pack) (now marks)) i (range .from) (range .to) × (lowest (marked (now marks)) (range .from + 1) (1024 - (range .from + 1)) < range .to) ⌝ }
     ensures less { λ r. ⌜ r .to - r .from < range .to - range .from ⌝ }
     ensures between { λ r. ⌜ Between (λ P. Follows (linesOf (now (pack .entry))) P a b) (counted (now (pack .entry)) (now (marks .entry))) i (r .from) (r .to) ⌝ }
 {
@@ -93,7 +94,7 @@ fn next_kept<'a>(
     b: usize,
     i: usize,
 ) -> usize
-    requires { ⌜ Taken n m (now pack) (now marks) a b × (a ≡ b → ⊥) × (i < 1024) × Follows (linesOf (now pack)) (counted (now pack) (now marks)) a b ⌝ }
+    requires { ⌜ Admitted n m (now pack) (now marks) a b × (a ≡ b → ⊥) × (i < 1024) × Follows (linesOf (now pack)) (counted (now pack) (now marks)) a b ⌝ }
     ensures { λ k. ⌜ Next (λ P. Follows (linesOf (now (pack .entry))) P a b) (counted (now (pack .entry)) (now (marks .entry))) i k ⌝ }
 {
     if goes_without(n, m, pack, marks, a, b, i, 1024) {
@@ -117,7 +118,7 @@ pub fn pick<'a>(
     a: usize,
     b: usize,
 ) -> [u64; 16]
-    requires { ⌜ Taken n m (now pack) given a b × (a ≡ b → ⊥) × (given ≡ marksOf (marked given)) × Follows (linesOf (now pack)) (counted (now pack) given) a b ⌝ }
+    requires { ⌜ Admitted n m (now pack) given a b × (a ≡ b → ⊥) × (given ≡ marksOf (marked given)) × Follows (linesOf (now pack)) (counted (now pack) given) a b ⌝ }
     ensures words { λ r. ⌜ (r ≡ marksOf (marked r)) × ((i : ℕ) → marked r i ≡ true → marked given i ≡ true) ⌝ }
     ensures picked { λ r. ⌜ IsPicked (length (linesOf (now (pack .entry)))) (λ P. Follows (linesOf (now (pack .entry))) P a b) (counted (now (pack .entry)) given) (counted (now (pack .entry)) r) ⌝ }
 {

@@ -2,10 +2,10 @@
 ghost use mathlib.Core.Path.{_≡_};
 ghost use lib.ListN.{length};
 ghost use Rattle.marks.specs.Marks.{markCount};
-ghost use Rattle.pack.specs.Answers.{checkedNumber, checkedValue};
-ghost use Rattle.pack.specs.Table.{Given};
-ghost use Rattle.reasons.specs.Names.{TakenOf};
-ghost use Rattle.reasons.specs.Module.{moduleMarks, askModule, writtenModule, moduleTable};
+ghost use Rattle.reasons.specs.Names.{AdmittedOf};
+ghost use Rattle.reasons.specs.Computed.{moduleMarks};
+ghost use Rattle.reasons.specs.Module.{GivesModule};
+ghost use Rattle.pack.specs.Answers.{checkedTold};
 use crate::out::check_reason;
 use crate::reach::reached_records;
 use marks::change::put_marks;
@@ -14,7 +14,7 @@ use pack::check::Checked;
 
 // The marks of the module for concept a of a question that is taken.
 pub fn module_of<'a>(n: usize, m: usize, pack: &'a [u8], marks: &'a [u64], a: usize) -> [u64; 16]
-    requires { ⌜ TakenOf n m (now pack) (now marks) a ⌝ }
+    requires { ⌜ AdmittedOf n m (now pack) (now marks) a ⌝ }
     ensures { λ r. ⌜ r ≡ moduleMarks n m (now (pack .entry)) (now (marks .entry)) a ⌝ }
 {
     reached_records(pack, marks, a as u8)
@@ -29,7 +29,7 @@ fn put_module<'a>(
     a: usize,
     out: &mut [u64],
 ) -> Checked
-    requires { ⌜ TakenOf n m (now pack) (now marks) a × (length (now out) ≡ 16) ⌝ }
+    requires { ⌜ AdmittedOf n m (now pack) (now marks) a × (length (now out) ≡ 16) ⌝ }
     ensures { λ r. ⌜ (r ≡ Checked.Count (markCount (moduleMarks n m (now (pack .entry)) (now (marks .entry)) a))) × (now (out .exit) ≡ moduleMarks n m (now (pack .entry)) (now (marks .entry)) a) ⌝ }
 {
     let words = module_of(n, m, pack, marks, a);
@@ -46,8 +46,7 @@ pub fn module_for<'a>(
     a: usize,
     out: &mut [u64],
 ) -> Checked
-    ensures answer { λ r. ⌜ (r ≡ askModule n m (now (pack .entry)) (now (marks .entry)) a (now (out .entry))) × (now (out .exit) ≡ writtenModule n m (now (pack .entry)) (now (marks .entry)) a (now (out .entry))) ⌝ }
-    ensures table { λ r. ⌜ Given (checkedNumber r) (checkedValue r) (markCount (moduleMarks n m (now (pack .entry)) (now (marks .entry)) a)) (moduleTable n m (now (pack .entry)) (now (marks .entry)) a (now (out .entry))) ⌝ }
+    ensures { λ r. ⌜ GivesModule n m (now (pack .entry)) (now (marks .entry)) a (now (out .entry)) (now (out .exit)) (checkedTold r .0) (checkedTold r .1) ⌝ }
 {
     let checked = check_reason(n, m, pack, marks, a, a, out.len());
     match checked {

@@ -1,6 +1,6 @@
 // The question check of a call that is lent out marks.
 ghost use mathlib.Core.Path.{_≡_};
-ghost use Rattle.reasons.specs.OutMarks.{checkReason};
+ghost use Rattle.reasons.specs.Computed.{checkReason};
 use pack::check::Checked;
 use pack::question::check_question;
 

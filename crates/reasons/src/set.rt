@@ -3,13 +3,13 @@ ghost use mathlib.Core.Path.{_≡_};
 ghost use mathlib.Core.Bool.{true, false};
 ghost use lib.ListN.{length};
 ghost use Rattle.marks.specs.Marks.{markCount};
-ghost use Rattle.pack.specs.Question.{counted, Taken};
+ghost use Rattle.pack.specs.Question.{counted};
+ghost use Rattle.pack.specs.Computed.{Admitted};
 ghost use Rattle.pack.specs.Record.{linesOf};
-ghost use Rattle.pack.specs.Table.{Given};
 ghost use Rattle.pack.specs.World.{Follows};
-ghost use Rattle.engine.specs.declared.verdict.VerdictAnswer.the-variants as verdict;
-ghost use Rattle.engine.specs.Verdict.{askVerdict};
-ghost use Rattle.reasons.specs.Set.{setMarks, setAfter, setOut, askSet, writtenSet, setNumber, setValue, setTable};
+ghost use Rattle.reasons.specs.Set.{setTold, GivesSet};
+ghost use Rattle.reasons.specs.Computed.{setMarks};
+ghost use Rattle.reasons.specs.Inner.{SetTaken};
 use crate::halve::pick;
 use crate::module::module_of;
 use crate::out::check_reason;
@@ -29,7 +29,7 @@ pub enum SetAnswer {
 
 // The marks of the printed set of a goal that follows: picked from its module. For A equal to B no record is needed.
 fn set_of<'a>(n: usize, m: usize, pack: &'a [u8], marks: &'a [u64], a: usize, b: usize) -> [u64; 16]
-    requires { ⌜ Taken n m (now pack) (now marks) a b × Follows (linesOf (now pack)) (counted (now pack) (now marks)) a b ⌝ }
+    requires { ⌜ Admitted n m (now pack) (now marks) a b × Follows (linesOf (now pack)) (counted (now pack) (now marks)) a b ⌝ }
     ensures { λ r. ⌜ r ≡ setMarks n m (now (pack .entry)) (now (marks .entry)) a b ⌝ }
 {
     if a == b {
@@ -49,8 +49,8 @@ fn put_set<'a>(
     b: usize,
     out: &mut [u64],
 ) -> SetAnswer
-    requires { ⌜ Taken n m (now pack) (now marks) a b × Follows (linesOf (now pack)) (counted (now pack) (now marks)) a b × (length (now out) ≡ 16) ⌝ }
-    ensures { λ r. ⌜ (r ≡ setAfter verdict.Follows (setMarks n m (now (pack .entry)) (now (marks .entry)) a b)) × (now (out .exit) ≡ setMarks n m (now (pack .entry)) (now (marks .entry)) a b) ⌝ }
+    requires { ⌜ Admitted n m (now pack) (now marks) a b × Follows (linesOf (now pack)) (counted (now pack) (now marks)) a b × (length (now out) ≡ 16) ⌝ }
+    ensures { λ r. ⌜ (r ≡ SetAnswer.Count (markCount (setMarks n m (now (pack .entry)) (now (marks .entry)) a b))) × (now (out .exit) ≡ setMarks n m (now (pack .entry)) (now (marks .entry)) a b) ⌝ }
 {
     let words = set_of(n, m, pack, marks, a, b);
     put_marks(&words, out);
@@ -59,7 +59,7 @@ fn put_set<'a>(
 
 // Does the goal of a question that is taken follow? A is under A always.
 fn goal_holds<'a>(n: usize, m: usize, pack: &'a [u8], marks: &'a [u64], a: usize, b: usize) -> bool
-    requires { ⌜ Taken n m (now pack) (now marks) a b ⌝ }
+    requires { ⌜ Admitted n m (now pack) (now marks) a b ⌝ }
     ensures { λ r. ⌜ (r ≡ true → Follows (linesOf (now (pack .entry))) (counted (now (pack .entry)) (now (marks .entry))) a b) × (r ≡ false → Follows (linesOf (now (pack .entry))) (counted (now (pack .entry)) (now (marks .entry))) a b → ⊥) ⌝ }
 {
     if a == b {
@@ -78,8 +78,8 @@ fn set_taken<'a>(
     b: usize,
     out: &mut [u64],
 ) -> SetAnswer
-    requires { ⌜ Taken n m (now pack) (now marks) a b × (length (now out) ≡ 16) ⌝ }
-    ensures { λ r. ⌜ (r ≡ setAfter (askVerdict n m (now (pack .entry)) (now (marks .entry)) a b) (setMarks n m (now (pack .entry)) (now (marks .entry)) a b)) × (now (out .exit) ≡ setOut r (setMarks n m (now (pack .entry)) (now (marks .entry)) a b) (now (out .entry))) ⌝ }
+    requires { ⌜ Admitted n m (now pack) (now marks) a b × (length (now out) ≡ 16) ⌝ }
+    ensures { λ r. ⌜ SetTaken n m (now (pack .entry)) (now (marks .entry)) a b (now (out .entry)) (now (out .exit)) r ⌝ }
 {
     if goal_holds(n, m, pack, marks, a, b) {
         return put_set(n, m, pack, marks, a, b, out);
@@ -97,8 +97,7 @@ pub fn printed_set<'a>(
     b: usize,
     out: &mut [u64],
 ) -> SetAnswer
-    ensures answer { λ r. ⌜ (r ≡ askSet n m (now (pack .entry)) (now (marks .entry)) a b (now (out .entry))) × (now (out .exit) ≡ writtenSet n m (now (pack .entry)) (now (marks .entry)) a b (now (out .entry))) ⌝ }
-    ensures table { λ r. ⌜ Given (setNumber r) (setValue r) (markCount (setMarks n m (now (pack .entry)) (now (marks .entry)) a b)) (setTable n m (now (pack .entry)) (now (marks .entry)) a b (now (out .entry))) ⌝ }
+    ensures { λ r. ⌜ GivesSet n m (now (pack .entry)) (now (marks .entry)) a b (now (out .entry)) (now (out .exit)) (setTold r .0) (setTold r .1) ⌝ }
 {
     let checked = check_reason(n, m, pack, marks, a, b, out.len());
     match checked {

@@ -1,3 +1,2 @@
--- The numbers of the checks' answers, and what their C calls return.
+-- The numbers that the checks' C calls return.
 pub mod Answers
-pub mod Calls

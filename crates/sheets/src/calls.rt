@@ -1,6 +1,8 @@
 // The two checks for C: numbers and byte slices, the marks as 128 bytes.
-ghost use mathlib.Core.Path.{_≡_};
-ghost use Rattle.sheets.specs.Calls.{yesCode, noCode};
+ghost use Prim.Native.Nat.{_/_, _%_};
+ghost use Rattle.pack.specs.Bytes.{marksIn};
+ghost use Rattle.yes.specs.Answers.{GivesYes};
+ghost use Rattle.no.specs.Answers.{GivesNo};
 use crate::code::no_code;
 use crate::code::yes_code;
 use no::check::check_no;
@@ -18,7 +20,7 @@ pub extern "C" fn noolukask_check_yes<'a>(
     b: u64,
     sheet: &'a [u8],
 ) -> u64
-    ensures { λ r. ⌜ r ≡ yesCode n m (now (pack .entry)) (now (marks .entry)) a b (now (sheet .entry)) ⌝ }
+    ensures { λ r. ⌜ GivesYes n m (now (pack .entry)) (marksIn (now (marks .entry))) a b (now (sheet .entry)) (r % 16) (r / 16) ⌝ }
 {
     if marks.len() == 128 {
         let words = read_marks(marks);
@@ -55,7 +57,7 @@ pub extern "C" fn noolukask_check_no<'a>(
     b: u64,
     sheet: &'a [u8],
 ) -> u64
-    ensures { λ r. ⌜ r ≡ noCode n m (now (pack .entry)) (now (marks .entry)) a b (now (sheet .entry)) ⌝ }
+    ensures { λ r. ⌜ GivesNo n m (now (pack .entry)) (marksIn (now (marks .entry))) a b (now (sheet .entry)) (r % 16) (r / 16) ⌝ }
 {
     if marks.len() == 128 {
         let words = read_marks(marks);

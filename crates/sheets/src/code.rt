@@ -1,8 +1,8 @@
 // What the checks answer, as a number of document 01's table plus 16 times the place, step or row.
 ghost use mathlib.Core.Path.{_≡_};
-ghost use Rattle.yes.specs.Answers.{yesNumber, yesPlace};
-ghost use Rattle.no.specs.Answers.{noNumber, noPlace};
 ghost use Rattle.sheets.specs.Answers.{code};
+ghost use Rattle.yes.specs.Answers.{yesTold};
+ghost use Rattle.no.specs.Answers.{noTold};
 use no::check::NoAnswer;
 use pack::check::refusal_number;
 use pack::check::refusal_place;
@@ -17,7 +17,7 @@ fn place_code(number: u32, place: u32) -> u64
 
 // What a C call returns for the yes check's answer.
 pub fn yes_code(answer: YesAnswer) -> u64
-    ensures { λ r. ⌜ r ≡ code (yesNumber answer) (yesPlace answer) ⌝ }
+    ensures { λ r. ⌜ r ≡ code (yesTold answer .0) (yesTold answer .1) ⌝ }
 {
     match answer {
         YesAnswer::Refused(why) => place_code(refusal_number(why), refusal_place(why)),
@@ -30,7 +30,7 @@ pub fn yes_code(answer: YesAnswer) -> u64
 
 // What a C call returns for the no check's answer.
 pub fn no_code(answer: NoAnswer) -> u64
-    ensures { λ r. ⌜ r ≡ code (noNumber answer) (noPlace answer) ⌝ }
+    ensures { λ r. ⌜ r ≡ code (noTold answer .0) (noTold answer .1) ⌝ }
 {
     match answer {
         NoAnswer::Refused(why) => place_code(refusal_number(why), refusal_place(why)),

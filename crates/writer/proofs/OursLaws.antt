@@ -1,63 +1,58 @@
 -- Our sheets are accepted, what the writer says is so of what it wrote, and no second result keeps its promise.
 use mathlib.Core.Path.{_≡_, refl, sym, ap, ap₂, _∙_, subst, fun-ext}
-use mathlib.Core.Logic.{_⊎_, inl, inr}
 use mathlib.Core.Bool.{Bool, true, false, cond, _&&_}
 use mathlib.Core.List.{List, map, flatten}
 use Prim.Native.Nat.{ℕ, _+_, _*_, _/_, _%_, _≤_, _<_}
 use native.Mathlib.Nat.{mul-left-comm, mul-div-cancel, mul-mod-left}
 use native.Mathlib.Omega.{arith}
 use lib.Dec.{eqb, ltb, leb}
-use lib.ListN.{length, getD, take, drop}
+use lib.ListN.{length, getD, take}
 use lib.Pow.{pow-mono}
-use lib.Seq.{take-at}
-use borrow.Author.Tests.{eq-eqb, le-leb, leb-true, leb-false}
+use borrow.Author.Tests.{eq-eqb, le-leb, leb-true}
 use Rattle.bits.specs.Bit.{has}
 use Rattle.bits.proofs.BitLaws.{has-high}
-use Rattle.bits.proofs.Promises.{no-second}
 use Rattle.bits.proofs.SetLaws.{some-false}
 use Rattle.bits.proofs.Truth.{true-both}
-use Rattle.pack.specs.declared.check.Checked.{Checked}
 use Rattle.pack.specs.declared.check.Checked.the-variants as checked
 use Rattle.pack.specs.declared.line.Fact.the-variants.{In}
 use Rattle.pack.specs.declared.line.Step.{Step}
 use Rattle.pack.specs.Bytes.{part}
-use Rattle.pack.specs.Question.{counted, checkQuestion}
+use Rattle.pack.specs.Question.{counted}
+use Rattle.pack.specs.Computed.{checkQuestion}
 use Rattle.pack.specs.Record.{linesOf}
-use Rattle.pack.specs.World.{World, Is, Obeys, Follows}
+use Rattle.pack.specs.World.{World, Is, Obeys}
 use Rattle.pack.proofs.Parts.{parts-length, parts-all}
 use Rattle.pack.proofs.RecordLaws.{lines-length}
 use Rattle.pack.proofs.QuestionLaws.{asked, asked-valid}
 use Rattle.yes.specs.declared.check.YesAnswer.the-variants as yes
-use Rattle.yes.specs.YesSheet.{stepIn, zerosIn, stepsOf, known, goodOver, goodAt, checkYes}
-use Rattle.yes.proofs.YesLaws.{yes-accepts}
+use Rattle.yes.specs.YesSheet.{stepIn, zerosIn, stepsOf, known, goodOver, goodAt}
+use Rattle.yes.specs.Computed.{checkYes}
+use Rattle.yes.proofs.YesLaws.{good-accepts}
 use Rattle.no.specs.declared.check.NoAnswer.the-variants as no
-use Rattle.no.specs.NoSheet.{rowAt, thingsIn, noLengthFits, forbidden, worldOf, checkNo}
-use Rattle.no.proofs.NoLaws.{no-accepts}
-use Rattle.sheets.proofs.Both.{never-both}
+use Rattle.no.specs.NoSheet.{rowAt, forbidden, worldOf}
+use Rattle.no.specs.Computed.{thingsBy, noLengthBy, checkNo}
+use Rattle.no.proofs.NoLaws.{world-accepts}
 use Rattle.passes.specs.Ours.{ourSteps, ourRows}
 use Rattle.passes.proofs.PassLaws.{not-free-most}
-use Rattle.passes.proofs.YesLaws.{ours-good, ours-usable, ours-known, ours-most}
-use Rattle.passes.proofs.NoLaws.{rows-length, rows-small, ourWorld, rows-obey, rows-refute}
+use Rattle.passes.proofs.StepsLaws.{ours-good, ours-usable, ours-known, ours-most}
+use Rattle.passes.proofs.RowsLaws.{rows-length, rows-small, ourWorld, rows-obey, rows-refute}
 use Rattle.sweep.specs.Writing.{stepBytes}
-use Rattle.engine.specs.Verdict.{follows}
-use Rattle.engine.proofs.VerdictLaws.{too-long-never}
-use Rattle.writer.specs.declared.write.SheetAnswer.{SheetAnswer}
-use Rattle.writer.specs.declared.write.SheetAnswer.the-variants as sheets
-use Rattle.writer.specs.Sheet.{yesBytes, noBytes, ourSheet, sheetAnswer, sheetAfter, askSheet, sheetOut, writtenSheet}
-use Rattle.writer.proofs.SheetLaws.{zeros-in, step-in, steps-of, rows-of, yes-length, no-length}
+use Rattle.engine.specs.Computed.{goalHeld}
+use Rattle.writer.specs.Sheet.{yesBytes, noBytes}
+use Rattle.writer.proofs.SheetLaws.{zeros-in, step-in, steps-of, rows-of, no-length}
 
 -- the world that the bytes of our rows describe is the one of our rows
 module _ (n m : ℕ) (s ws : List ℕ) (few : n ≤ 64) where
   no-whole : length (noBytes n m s ws) ≡ n * (8 * (1 + m))
   no-whole = no-length n m s ws ∙ ap (λ (k : ℕ). 8 * k) (rows-length (linesOf s) (counted s ws) n m) ∙ mul-left-comm 8 n (1 + m)
 
-  no-things : thingsIn m (noBytes n m s ws) ≡ n
+  no-things : thingsBy m (noBytes n m s ws) ≡ n
   no-things = ap (λ (k : ℕ). k / (8 * (1 + m))) no-whole ∙ mul-div-cancel n (omega arith)
 
-  no-fits : 1 ≤ n → noLengthFits m (noBytes n m s ws) ≡ true
+  no-fits : 1 ≤ n → noLengthBy m (noBytes n m s ws) ≡ true
   no-fits h =
       let size = length (noBytes n m s ws) in
-      let k = thingsIn m (noBytes n m s ws) in
+      let k = thingsBy m (noBytes n m s ws) in
       let things = no-things in
       let rest : size % (8 * (1 + m)) ≡ 0 = ap (λ (l : ℕ). l % (8 * (1 + m))) no-whole ∙ mul-mod-left n (8 * (1 + m)) in
       true-both (eqb (size % (8 * (1 + m))) 0) (leb 1 k && leb k 64) (eq-eqb (size % (8 * (1 + m))) 0 rest)
@@ -69,7 +64,7 @@ module _ (n m : ℕ) (s ws : List ℕ) (few : n ≤ 64) where
       rows-of (ourRows (linesOf s) (counted s ws) n m)
       (λ i. omega (arith, rows-small (linesOf s) (counted s ws) n m i, pow-mono few))
 
-  no-clean : (i : ℕ) → forbidden n (thingsIn m (noBytes n m s ws)) (noBytes n m s ws) i ≡ false
+  no-clean : (i : ℕ) → forbidden n (thingsBy m (noBytes n m s ws)) (noBytes n m s ws) i ≡ false
   unfolding forbidden
   no-clean i = rw no-things (some-false (λ j. leb (cond (ltb i n) n n) j && has (rowAt (noBytes n m s ws) i) j) 64 (λ j _. at j (ltb i n)))
     where
@@ -81,24 +76,17 @@ module _ (n m : ℕ) (s ws : List ℕ) (few : n ≤ 64) where
       at j true = high j (leb n j) refl
       at j false = high j (leb n j) refl
 
-  no-world : worldOf (thingsIn m (noBytes n m s ws)) (noBytes n m s ws) ≡ ourWorld (linesOf s) (counted s ws) n m
+  no-world : worldOf (thingsBy m (noBytes n m s ws)) (noBytes n m s ws) ≡ ourWorld (linesOf s) (counted s ws) n m
   no-world =
       ap₂ (λ (k : ℕ) (row : ℕ → ℕ). record { things = k; isIn = λ x a. has (row x) a; linked = λ x r y. has (row (k + (r * k + x))) y })
       no-things (fun-ext no-rows)
 
--- some yes sheet is accepted, and some no sheet
-abbrev SomeYes : ℕ → ℕ → List ℕ → List ℕ → ℕ → ℕ → Type 0
-SomeYes n m s ws a b = (sheet : List ℕ) × (checkYes n m s ws a b sheet ≡ yes.Accepted)
-
-abbrev SomeNo : ℕ → ℕ → List ℕ → List ℕ → ℕ → ℕ → Type 0
-SomeNo n m s ws a b = (sheet : List ℕ) × (checkNo n m s ws a b sheet ≡ no.Accepted)
-
 -- a question that is taken
 module _ (n m : ℕ) (s ws : List ℕ) (a b : ℕ) {k : ℕ} (taken : checkQuestion n m s ws a b ≡ checked.Count k) where
   -- OURS IS ACCEPTED: our yes sheet where the goal follows
-  pub ours-yes : follows n m s ws a b ≡ true → checkYes n m s ws a b (yesBytes n m s ws a b) ≡ yes.Accepted
-  unfolding follows yesBytes goodAt
-  ours-yes h =
+  pub yes-taken : goalHeld n m s ws a b ≡ true → checkYes n m s ws a b (yesBytes n m s ws a b) ≡ yes.Accepted
+  unfolding goalHeld yesBytes goodAt
+  yes-taken h =
       let ls = linesOf s in
       let S = counted s ws in
       let ss = ourSteps ls S n m a b in
@@ -112,7 +100,7 @@ module _ (n m : ℕ) (s ws : List ℕ) (a b : ℕ) {k : ℕ} (taken : checkQuest
       let small : (i : ℕ) → i < length ss → getD ss i d .place < 65536 =
       λ i g. (let p = ours-usable ls S n m a b (asked-valid n m s ws a b taken) (asked n m s ws a b taken .goalA) h i d g .there in omega arith) in
       let all : stepsOf sheet ≡ ss = steps-of ss d small in
-      yes-accepts n m s ws a b sheet taken
+      good-accepts n m s ws a b sheet taken
       (true-both (eqb (length sheet % 8) 0) (leb (length sheet) 524288) (eq-eqb (length sheet % 8) 0 (omega arith)) (le-leb (length sheet) 524288 (omega arith)))
       (λ i g.
       let there : i < length ss = omega arith in
@@ -124,9 +112,9 @@ module _ (n m : ℕ) (s ws : List ℕ) (a b : ℕ) {k : ℕ} (taken : checkQuest
       (ap (λ (steps : List Step). known ls n steps (In a b)) all ∙ ours-known ls S n m a b (asked-valid n m s ws a b taken) (asked n m s ws a b taken .goalA) h)
 
   -- and our no sheet where it does not
-  pub ours-no : follows n m s ws a b ≡ false → checkNo n m s ws a b (noBytes n m s ws) ≡ no.Accepted
-  unfolding follows
-  ours-no h =
+  pub no-taken : goalHeld n m s ws a b ≡ false → checkNo n m s ws a b (noBytes n m s ws) ≡ no.Accepted
+  unfolding goalHeld
+  no-taken h =
       let ls = linesOf s in
       let S = counted s ws in
       let few = asked n m s ws a b taken .pack .n-most in
@@ -134,71 +122,8 @@ module _ (n m : ℕ) (s ws : List ℕ) (a b : ℕ) {k : ℕ} (taken : checkQuest
       let world = sym (no-world n m s ws few) in
       let things = no-things n m s ws few in
       let goal = rows-refute ls S n m (asked-valid n m s ws a b taken) a b (asked n m s ws a b taken .goalA) (asked n m s ws a b taken .goalB) h in
-      no-accepts n m s ws a b (noBytes n m s ws) taken (no-fits n m s ws few (asked n m s ws a b taken .pack .n-some)) (λ i _. no-clean n m s ws few i)
+      world-accepts n m s ws a b (noBytes n m s ws) taken (no-fits n m s ws few (asked n m s ws a b taken .pack .n-some)) (λ i _. no-clean n m s ws few i)
       (subst (λ (w : World). Obeys w ls S) world (rows-obey ls S n m (asked-valid n m s ws a b taken)))
       a (omega arith)
       (subst (λ (w : World). Is w a a) world (goal .0))
       (subst (λ (w : World). w .isIn a b ≡ false) world (goal .1))
-
-  -- EXACTLY ONE SORT OF SHEET IS ACCEPTED
-  pub exactly-one : (SomeYes n m s ws a b × (SomeNo n m s ws a b → ⊥)) ⊎ (SomeNo n m s ws a b × (SomeYes n m s ws a b → ⊥))
-  exactly-one = go (follows n m s ws a b) refl
-    where
-      go : (t : Bool) → follows n m s ws a b ≡ t → (SomeYes n m s ws a b × (SomeNo n m s ws a b → ⊥)) ⊎ (SomeNo n m s ws a b × (SomeYes n m s ws a b → ⊥))
-      go true e = let y = ours-yes e in inl ((yesBytes n m s ws a b, y), λ z. never-both n m s ws a b (yesBytes n m s ws a b) (z .0) y (z .1))
-      go false e = let z = ours-no e in inr ((noBytes n m s ws, z), λ y. never-both n m s ws a b (y .0) (noBytes n m s ws) (y .1) z)
-
--- the sheet writer
-module _ (n m : ℕ) (s ws : List ℕ) (a b : ℕ) (sheet : List ℕ) where
-  -- what an answer shows, and the sheet afterwards: the steps or rows are as many as ours, and so many parts of the sheet are accepted
-  abbrev Shows : SheetAnswer → List ℕ → Type 0
-  Shows (sheets.Refused why) after = checkQuestion n m s ws a b ≡ checked.Refused why
-  Shows sheets.TooLong after = ⊥
-  Shows (sheets.NoRoom k) after = (k ≡ length (ourSheet n m s ws a b)) × (length sheet < k)
-  Shows (sheets.Follows j) after = (j ≡ length (ourSteps (linesOf s) (counted s ws) n m a b)) × (checkYes n m s ws a b (take (8 * j) after) ≡ yes.Accepted)
-  Shows (sheets.Not j) after = (j ≡ length (ourRows (linesOf s) (counted s ws) n m)) × (checkNo n m s ws a b (take (8 * j) after) ≡ no.Accepted)
-
-  -- WHAT THE WRITER SAYS IS SO OF WHAT IT WROTE
-  pub joined : Shows (askSheet n m s ws a b sheet) (writtenSheet n m s ws a b sheet)
-  unfolding askSheet writtenSheet
-  joined = after (checkQuestion n m s ws a b) refl
-    where
-      shown : {k : ℕ} → checkQuestion n m s ws a b ≡ checked.Count k → (t room : Bool) → follows n m s ws a b ≡ t → leb (length (cond t (yesBytes n m s ws a b) (noBytes n m s ws))) (length sheet) ≡ room
-          → let ours = cond t (yesBytes n m s ws a b) (noBytes n m s ws) in let r = sheetAnswer t (cond t (length (ourSteps (linesOf s) (counted s ws) n m a b)) (length (ourRows (linesOf s) (counted s ws) n m))) room in Shows r (sheetOut r ours sheet)
-      shown e true true f g =
-          let ours = yesBytes n m s ws a b in
-          let l = yes-length n m s ws a b in
-          (refl, ap (checkYes n m s ws a b) (take-at ours (drop (length ours) sheet) (8 * length (ourSteps (linesOf s) (counted s ws) n m a b)) (omega arith)) ∙ ours-yes n m s ws a b e f)
-      shown e false true f g =
-          let ours = noBytes n m s ws in
-          let l = no-length n m s ws in
-          (refl, ap (checkNo n m s ws a b) (take-at ours (drop (length ours) sheet) (8 * length (ourRows (linesOf s) (counted s ws) n m)) (omega arith)) ∙ ours-no n m s ws a b e f)
-      shown e true false f g =
-          let l = yes-length n m s ws a b in
-          let less = leb-false (length (yesBytes n m s ws a b)) (length sheet) g in
-          rw f (omega arith, omega arith)
-      shown e false false f g =
-          let l = no-length n m s ws in
-          let less = leb-false (length (noBytes n m s ws)) (length sheet) g in
-          rw f (omega arith, omega arith)
-
-      after : (q : Checked) → checkQuestion n m s ws a b ≡ q → Shows (sheetAfter q n m s ws a b sheet) (sheetOut (sheetAfter q n m s ws a b sheet) (ourSheet n m s ws a b) sheet)
-      after (checked.Refused why) e = e
-      after (checked.Count k) e = rw (too-long-never n m s ws a b e) (shown e (follows n m s ws a b) (leb (length (ourSheet n m s ws a b)) (length sheet)) refl refl)
-
-  -- FOLLOWS: AS MANY STEPS AS OURS, ACCEPTED
-  pub joined-yes : {j : ℕ} → askSheet n m s ws a b sheet ≡ sheets.Follows j
-      → (j ≡ length (ourSteps (linesOf s) (counted s ws) n m a b)) × (checkYes n m s ws a b (take (8 * j) (writtenSheet n m s ws a b sheet)) ≡ yes.Accepted)
-  joined-yes h = subst (λ (r : SheetAnswer). Shows r (writtenSheet n m s ws a b sheet)) h joined
-
-  -- NOT: AS MANY ROWS AS OURS, ACCEPTED
-  pub joined-no : {j : ℕ} → askSheet n m s ws a b sheet ≡ sheets.Not j
-      → (j ≡ length (ourRows (linesOf s) (counted s ws) n m)) × (checkNo n m s ws a b (take (8 * j) (writtenSheet n m s ws a b sheet)) ≡ no.Accepted)
-  joined-no h = subst (λ (r : SheetAnswer). Shows r (writtenSheet n m s ws a b sheet)) h joined
-
--- NO SECOND RESULT, and no second later content of the sheet, satisfies the promise of a call
-pub sheet-fixed : (n m : ℕ) (s ws : List ℕ) (a b : ℕ) (sheet : List ℕ) (r r′ : SheetAnswer) (sheet₁ sheet₂ : List ℕ)
-    → (r ≡ askSheet n m s ws a b sheet) × (sheet₁ ≡ writtenSheet n m s ws a b sheet)
-    → (r′ ≡ askSheet n m s ws a b sheet) × (sheet₂ ≡ writtenSheet n m s ws a b sheet)
-    → (r ≡ r′) × (sheet₁ ≡ sheet₂)
-sheet-fixed n m s ws a b sheet r r′ sheet₁ sheet₂ p q = (no-second (p .0) (q .0), no-second (p .1) (q .1))

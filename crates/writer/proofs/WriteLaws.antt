@@ -21,26 +21,28 @@ use Rattle.pack.specs.declared.line.Fact.the-variants.{In, Link}
 use Rattle.pack.specs.declared.line.Line.{Line}
 use Rattle.pack.specs.declared.line.Step.{Step}
 use Rattle.pack.specs.Bytes.{wordsBytes}
-use Rattle.pack.specs.Question.{counted, checkQuestion}
+use Rattle.pack.specs.Question.{counted}
+use Rattle.pack.specs.Computed.{checkQuestion}
 use Rattle.pack.specs.Record.{linesOf}
 use Rattle.pack.specs.Rules.{free}
 use Rattle.pack.proofs.QuestionLaws.{Asked, asked}
 use Rattle.tables.specs.Tables.{held}
 use Rattle.tables.proofs.TableLaws.{in-bit, link-bit}
 use Rattle.passes.specs.Saturation.{holds}
-use Rattle.passes.specs.Passes.{el, finished, table}
+use Rattle.passes.specs.Passes.{el, finished, atEnd}
 use Rattle.passes.specs.Ours.{ourSteps, ourRows}
-use Rattle.passes.proofs.NoLaws.{row-concepts, row-links}
-use Rattle.passes.proofs.NoLaws as ours
+use Rattle.passes.proofs.RowsLaws.{row-concepts, row-links}
+use Rattle.passes.proofs.RowsLaws as ours
 use Rattle.passes.proofs.StopLaws.{ours-none, goal-free}
 use Rattle.sweep.specs.Inner.{Agree}
 use Rattle.sweep.specs.Writing.{stepBytes}
-use Rattle.engine.specs.Verdict.{follows}
+use Rattle.engine.specs.Computed.{goalHeld}
 use Rattle.engine.specs.Inner.{Ran}
 use Rattle.engine.proofs.VerdictLaws.{too-long-never, end-held, end-not}
 use Rattle.writer.specs.declared.write.SheetAnswer.{SheetAnswer}
 use Rattle.writer.specs.declared.write.SheetAnswer.the-variants as answer
-use Rattle.writer.specs.Sheet.{yesBytes, noBytes, ourSheet, sheetAnswer, sheetOut, askSheet, writtenSheet}
+use Rattle.writer.specs.Sheet.{yesBytes, noBytes}
+use Rattle.writer.specs.Computed.{ourSheet, sheetAnswer, sheetOut, askSheet, writtenSheet}
 use Rattle.writer.specs.Inner.{rowIn, rowsBytes}
 use Rattle.writer.proofs.SheetLaws.{with-steps, yes-length, no-length}
 
@@ -65,7 +67,7 @@ module _ (n m : ℕ) (s ws : List ℕ) (a b : ℕ) {c : ℕ} (taken : checkQuest
   Answers r after = (r ≡ askSheet n m s ws a b sheet) × (after ≡ writtenSheet n m s ws a b sheet)
 
   -- our sheet is so many parts: the answer goes by whether there is room for them
-  module _ (positive : Bool) (said : follows n m s ws a b ≡ positive) (ours : List ℕ) (parts : ℕ) (is : ours ≡ cond positive (yesBytes n m s ws a b) (noBytes n m s ws)) (long : length ours ≡ parts * 8) where
+  module _ (positive : Bool) (said : goalHeld n m s ws a b ≡ positive) (ours : List ℕ) (parts : ℕ) (is : ours ≡ cond positive (yesBytes n m s ws a b) (noBytes n m s ws)) (long : length ours ≡ parts * 8) where
     whole : ourSheet n m s ws a b ≡ ours
     whole = ap (λ (t : Bool). cond t (yesBytes n m s ws a b) (noBytes n m s ws)) said ∙ sym is
 
@@ -102,8 +104,8 @@ module _ (n m : ℕ) (s ws : List ℕ) (a b : ℕ) {c : ℕ} (taken : checkQuest
 module _ (n m : ℕ) (ls : List Line) (S : ℕ → Bool) (blank cs lks sheet : List ℕ) (k : ℕ) (some : 1 ≤ n) (most : n ≤ 64)
     (agree : Agree n m (free n) ls blank (finished ls S n m) cs lks sheet k) (words : (i : ℕ) → i < n * (1 + m) → rowIn n cs lks i < 2 ^ 64) where
   -- a row of words that hold a fact for each bit
-  row-is : (w : ℕ) (f : ℕ → Fact) → w < 2 ^ 64 → ((j : ℕ) → j < 64 → has w j ≡ held cs lks (f j)) → ((j : ℕ) → held cs lks (f j) ≡ true → j < n) → w ≡ row n (λ j. table ls S n m (f j))
-  unfolding table
+  row-is : (w : ℕ) (f : ℕ → Fact) → w < 2 ^ 64 → ((j : ℕ) → j < 64 → has w j ≡ held cs lks (f j)) → ((j : ℕ) → held cs lks (f j) ≡ true → j < n) → w ≡ row n (λ j. atEnd ls S n m (f j))
+  unfolding atEnd
   row-is w f h bits small =
       row-only 64 n (λ j. holds (el ls) (free n) (finished ls S n m) (f j)) w most h
       (λ j l. bits j (omega arith) ∙ agree .facts (f j))
@@ -117,10 +119,10 @@ module _ (n m : ℕ) (ls : List Line) (S : ℕ → Bool) (blank cs lks sheet : L
       high j l (yes q) = bits j q ∙ none j l (held cs lks (f j)) refl
       high j l (no q) = has-high 64 w j h (omega arith)
 
-  concept-row : (x : ℕ) → x < n → getD cs x 0 < 2 ^ 64 → getD cs x 0 ≡ row n (λ b. table ls S n m (In x b))
+  concept-row : (x : ℕ) → x < n → getD cs x 0 < 2 ^ 64 → getD cs x 0 ≡ row n (λ b. atEnd ls S n m (In x b))
   concept-row x l h = row-is (getD cs x 0) (In x) h (λ j. in-bit cs lks x j (omega arith)) (λ j e. agree .sizes (In x j) e .1)
 
-  link-row : (r x : ℕ) → r < m → m ≤ 8 → x < n → getD lks (r * 64 + x) 0 < 2 ^ 64 → getD lks (r * 64 + x) 0 ≡ row n (λ y. table ls S n m (Link x r y))
+  link-row : (r x : ℕ) → r < m → m ≤ 8 → x < n → getD lks (r * 64 + x) 0 < 2 ^ 64 → getD lks (r * 64 + x) 0 ≡ row n (λ y. atEnd ls S n m (Link x r y))
   link-row r x lr lm lx h = row-is (getD lks (r * 64 + x) 0) (Link x r) h (λ j. link-bit cs lks x r j (omega arith) (omega arith)) (λ j e. agree .sizes (Link x r j) e .2)
 
   row-at : m ≤ 8 → (i : ℕ) → i < n * (1 + m) → rowIn n cs lks i ≡ getD (ourRows ls S n m) i 0
@@ -148,14 +150,14 @@ module _ (n m : ℕ) (ls : List Line) (S : ℕ → Bool) (blank cs lks sheet : L
 module _ (n m : ℕ) (s ws : List ℕ) (a b : ℕ) {c : ℕ} (taken : checkQuestion n m s ws a b ≡ checked.Count c) (sheet : List ℕ) where
   -- A EQUAL TO B: nothing to show
   pub same-sheet : a ≡ b → Answers n m s ws a b taken sheet (answer.Follows 0) sheet
-  unfolding yesBytes follows flatten
+  unfolding yesBytes goalHeld flatten
   same-sheet e =
       let q = asked n m s ws a b taken in
       let none : ourSteps (linesOf s) (counted s ws) n m a b ≡ [] = ours-none (linesOf s) (counted s ws) n m a b (eq-eqb a b e) in
       let empty : [] ≡ yesBytes n m s ws a b = sym (ap (λ (l : List Step). flatten (map stepBytes l)) none) in
       long-enough n m s ws a b taken sheet true (goal-free (linesOf s) (counted s ws) n m a b (eq-eqb a b e) (q .goalA)) [] 0 empty refl (omega arith)
 
-  module _ (yes : follows n m s ws a b ≡ true) (steps : ℕ) (many : steps ≡ length (ourSteps (linesOf s) (counted s ws) n m a b)) where
+  module _ (yes : goalHeld n m s ws a b ≡ true) (steps : ℕ) (many : steps ≡ length (ourSteps (linesOf s) (counted s ws) n m a b)) where
     bytes-long : length (yesBytes n m s ws a b) ≡ steps * 8
     bytes-long = yes-length n m s ws a b ∙ omega arith
 
@@ -192,7 +194,7 @@ module _ (n m : ℕ) (s ws : List ℕ) (a b : ℕ) {c : ℕ} (taken : checkQuest
       q : Asked n m s ws a b c
       q = asked n m s ws a b taken
 
-      end : (follows n m s ws a b ≡ false) × Agree n m (free n) (linesOf s) blank (finished (linesOf s) (counted s ws) n m) cs lks blank′ k
+      end : (goalHeld n m s ws a b ≡ false) × Agree n m (free n) (linesOf s) blank (finished (linesOf s) (counted s ws) n m) cs lks blank′ k
       end = end-not n m s ws a b taken differ blank cs lks blank′ k ran h
 
       ours-long : length (noBytes n m s ws) ≡ n * (1 + m) * 8

@@ -1,3 +1,4 @@
--- Our sheets: what the writer answers, and the lent sheet afterwards.
+-- Our sheets: what the writer gives, and the lent sheet afterwards.
 pub mod Sheet
+pub mod Computed
 pub mod Inner

@@ -5,12 +5,13 @@ ghost use mathlib.Core.List.{_++_};
 ghost use Prim.Native.Nat.{ℕ, _+_, _*_, _/_, _^_, _≤_, _<_};
 ghost use lib.Dec.{leb};
 ghost use lib.ListN.{length, drop};
-ghost use Rattle.pack.specs.Question.{counted, Taken};
+ghost use Rattle.pack.specs.Question.{counted};
+ghost use Rattle.pack.specs.Computed.{Admitted};
 ghost use Rattle.pack.specs.Record.{linesOf};
-ghost use Rattle.pack.specs.Table.{Given};
 ghost use Rattle.passes.specs.Ours.{ourSteps};
-ghost use Rattle.engine.specs.Verdict.{follows};
-ghost use Rattle.writer.specs.Sheet.{ourParts, sheetAnswer, sheetOut, askSheet, writtenSheet, sheetNumber, sheetValue, sheetTable};
+ghost use Rattle.engine.specs.Computed.{goalHeld};
+ghost use Rattle.writer.specs.Sheet.{sheetTold, GivesSheet};
+ghost use Rattle.writer.specs.Computed.{sheetAnswer, sheetOut, askSheet, writtenSheet};
 ghost use Rattle.writer.specs.Inner.{rowsBytes, rowIn};
 use engine::verdict::settle;
 use pack::bytes::write_word;
@@ -102,7 +103,7 @@ fn write_yes<'a>(
     steps: usize,
     sheet: &mut [u8],
 ) -> SheetAnswer
-    requires { ⌜ Taken n m (now pack) (now marks) a b × (a ≡ b → ⊥) × (follows n m (now pack) (now marks) a b ≡ true) × (steps ≡ length (ourSteps (linesOf (now pack)) (counted (now pack) (now marks)) n m a b)) × (steps ≤ 36800) ⌝ }
+    requires { ⌜ Admitted n m (now pack) (now marks) a b × (a ≡ b → ⊥) × (goalHeld n m (now pack) (now marks) a b ≡ true) × (steps ≡ length (ourSteps (linesOf (now pack)) (counted (now pack) (now marks)) n m a b)) × (steps ≤ 36800) ⌝ }
     ensures { λ r. ⌜ (r ≡ askSheet n m (now (pack .entry)) (now (marks .entry)) a b (now (sheet .entry))) × (now (sheet .exit) ≡ writtenSheet n m (now (pack .entry)) (now (marks .entry)) a b (now (sheet .entry))) ⌝ }
 {
     let need = steps * 8;
@@ -124,7 +125,7 @@ fn write_settled<'a>(
     b: usize,
     sheet: &mut [u8],
 ) -> SheetAnswer
-    requires { ⌜ Taken n m (now pack) (now marks) a b × (a ≡ b → ⊥) ⌝ }
+    requires { ⌜ Admitted n m (now pack) (now marks) a b × (a ≡ b → ⊥) ⌝ }
     ensures { λ r. ⌜ (r ≡ askSheet n m (now (pack .entry)) (now (marks .entry)) a b (now (sheet .entry))) × (now (sheet .exit) ≡ writtenSheet n m (now (pack .entry)) (now (marks .entry)) a b (now (sheet .entry))) ⌝ }
 {
     let mut none = [0u8; 0];
@@ -152,7 +153,7 @@ fn write_taken<'a>(
     b: usize,
     sheet: &mut [u8],
 ) -> SheetAnswer
-    requires { ⌜ Taken n m (now pack) (now marks) a b ⌝ }
+    requires { ⌜ Admitted n m (now pack) (now marks) a b ⌝ }
     ensures { λ r. ⌜ (r ≡ askSheet n m (now (pack .entry)) (now (marks .entry)) a b (now (sheet .entry))) × (now (sheet .exit) ≡ writtenSheet n m (now (pack .entry)) (now (marks .entry)) a b (now (sheet .entry))) ⌝ }
 {
     if a == b {
@@ -171,8 +172,7 @@ pub fn write_sheet<'a>(
     b: usize,
     sheet: &mut [u8],
 ) -> SheetAnswer
-    ensures answer { λ r. ⌜ (r ≡ askSheet n m (now (pack .entry)) (now (marks .entry)) a b (now (sheet .entry))) × (now (sheet .exit) ≡ writtenSheet n m (now (pack .entry)) (now (marks .entry)) a b (now (sheet .entry))) ⌝ }
-    ensures table { λ r. ⌜ Given (sheetNumber r) (sheetValue r) (ourParts n m (now (pack .entry)) (now (marks .entry)) a b) (sheetTable n m (now (pack .entry)) (now (marks .entry)) a b (now (sheet .entry))) ⌝ }
+    ensures { λ r. ⌜ GivesSheet n m (now (pack .entry)) (now (marks .entry)) a b (now (sheet .entry)) (now (sheet .exit)) (sheetTold r .0) (sheetTold r .1) ⌝ }
 {
     let checked = check_question(n, m, pack, marks, a, b);
     match checked {

@@ -10,12 +10,12 @@ use Rattle.marks.specs.Marks.{marked, marksFit}
 use Rattle.pack.specs.World.{lineAt}
 use Rattle.pack.specs.Bytes.{littleEndian}
 use Rattle.pack.specs.Record.{lineIn, keepsIn, linesOf}
-use Rattle.pack.specs.Pack.{checkRecords, checkPack}
-use Rattle.pack.specs.Question.{checkQuestion}
+use Rattle.pack.specs.Computed.{checkRecords, checkPack, checkQuestion}
 use Rattle.pack.specs.Rules.{usable, free, sameFact}
 use Rattle.pack.proofs.Examples.{recordBytes, valve}
 use Rattle.yes.specs.declared.check.YesAnswer.the-variants as yes
-use Rattle.yes.specs.YesSheet.{stepsOf, concluded, known, goodOver, goodAt, lowestBad, checkSteps, checkYes}
+use Rattle.yes.specs.YesSheet.{stepsOf, concluded, known, goodOver, goodAt}
+use Rattle.yes.specs.Computed.{lowestBad, checkSteps, checkYes}
 
 -- a step at a place below 256
 unfoldable pub caseStep : ℕ → ℕ → ℕ → ℕ → List ℕ

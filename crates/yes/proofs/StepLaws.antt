@@ -11,11 +11,12 @@ use Rattle.bits.proofs.Truth.{both-true}
 use Rattle.bits.proofs.Promises.{no-second}
 use Rattle.pack.specs.declared.line.Line.{Line}
 use Rattle.pack.specs.declared.line.Fact.{Fact}
+use Rattle.pack.specs.declared.line.Rule.{Rule}
 use Rattle.pack.specs.declared.line.Step.{Step}
 use Rattle.pack.specs.World.{lineAt}
 use Rattle.pack.specs.Record.{linesOf, lineAtPlace, Valid}
 use Rattle.pack.specs.Question.{counted}
-use Rattle.pack.specs.Rules.{premiseOneOf, premiseTwoOf, conclusion, conclusionOf, numbersFit, usable}
+use Rattle.pack.specs.Rules.{ruleOf, ruleAt, premiseOneOf, premiseTwoOf, conclusionOf, numbersFit, usable}
 use Rattle.pack.proofs.RecordLaws.{lines-length, lines-at}
 use Rattle.pack.proofs.RuleLaws.{usable-is}
 use Rattle.pack.proofs.Ranges.{step-range}
@@ -23,10 +24,10 @@ use Rattle.tables.specs.Tables.{inTable, addedConcepts, addedLinks}
 use Rattle.tables.proofs.TableLaws.{in-table}
 use Rattle.yes.specs.YesSheet.{stepIn, goodOver, premisesKnown}
 
--- THE TESTS OF THE CODE: the place counts, and the numbers and the premises are right for the line l there
+-- THE TESTS OF THE CODE: the place counts, and the numbers and the premises are right for the rule of the line l there
 module _ (pack p : List ℕ) {s : Step} {l : Line} (e : s ≡ stepIn p) (f : l ≡ lineAtPlace pack (s .place)) where
   pub good-parts : (ws : List ℕ) (n : ℕ) (K : Fact → Bool)
-      → goodOver (linesOf pack) (counted pack ws) n K (stepIn p) ≡ ((ltb (s .place) (length pack / 8) && counted pack ws (s .place)) && (numbersFit l n s && premisesKnown l K s))
+      → goodOver (linesOf pack) (counted pack ws) n K (stepIn p) ≡ ((ltb (s .place) (length pack / 8) && counted pack ws (s .place)) && (numbersFit (ruleOf l (s .x) (s .y) (s .z)) n s && premisesKnown (ruleOf l (s .x) (s .y) (s .z)) K))
   unfolding goodOver usable
   good-parts ws n K =
       ap (goodOver (linesOf pack) (counted pack ws) n K) (sym e)
@@ -35,13 +36,16 @@ module _ (pack p : List ℕ) {s : Step} {l : Line} (e : s ≡ stepIn p) (f : l �
       k : Line
       k = lineAt (linesOf pack) (s .place)
 
-      there : (t : Bool) → ltb (s .place) (length pack / 8) ≡ t → (u : Bool) → (((t && u) && numbersFit k n s) && premisesKnown k K s) ≡ ((t && u) && (numbersFit l n s && premisesKnown l K s))
-      there true h true = ap (λ (x : Line). numbersFit x n s && premisesKnown x K s) (lines-at pack (s .place) (ltb-true _ _ h) ∙ sym f)
+      at : Line → Rule
+      at x = ruleOf x (s .x) (s .y) (s .z)
+
+      there : (t : Bool) → ltb (s .place) (length pack / 8) ≡ t → (u : Bool) → (((t && u) && numbersFit (at k) n s) && premisesKnown (at k) K) ≡ ((t && u) && (numbersFit (at l) n s && premisesKnown (at l) K))
+      there true h true = ap (λ (x : Line). numbersFit (at x) n s && premisesKnown (at x) K) (lines-at pack (s .place) (ltb-true _ _ h) ∙ sym f)
       there true h false = refl
       there false h u = refl
 
-  pub concludes : s .place < length pack / 8 → conclusion l (s .x) (s .y) (s .z) ≡ conclusionOf (linesOf pack) (stepIn p)
-  concludes h = ap (λ (k : Line). conclusion k (s .x) (s .y) (s .z)) (f ∙ sym (lines-at pack (s .place) h)) ∙ ap (conclusionOf (linesOf pack)) e
+  pub concludes : s .place < length pack / 8 → ruleOf l (s .x) (s .y) (s .z) .gives ≡ conclusionOf (linesOf pack) (stepIn p)
+  concludes h = ap (λ (k : Line). ruleOf k (s .x) (s .y) (s .z) .gives) (f ∙ sym (lines-at pack (s .place) h)) ∙ ap (conclusionOf (linesOf pack)) e
 
 module _ (ls : List Line) (S : ℕ → Bool) (n : ℕ) where
   -- whether a step is good depends only on which facts are known
@@ -58,7 +62,7 @@ module _ (ls : List Line) (S : ℕ → Bool) (n : ℕ) where
   pub good : {K : Fact → Bool} {s : Step} → goodOver ls S n K s ≡ true → Good K s
   unfolding goodOver
   good {K} {s} h =
-      let g = both-true (usable ls S n s) (premisesKnown (lineAt ls (s .place)) K s) h in
+      let g = both-true (usable ls S n s) (premisesKnown (ruleAt ls s) K) h in
       let k = both-true (K (premiseOneOf ls s)) (K (premiseTwoOf ls s)) (g .1) in
       record { may = g .0; one = k .0; two = k .1 }
 

@@ -9,10 +9,9 @@ use native.Mathlib.Omega.{arith}
 use lib.Dec.{ltb}
 use lib.ListN.{length, take}
 use lib.Seq.{take-suc, take-all}
-use borrow.Author.Tests.{ltb-true, ltb-false, lt-ltb, le-ltb, not-false}
+use borrow.Author.Tests.{ltb-false, lt-ltb, le-ltb, not-false}
 use Rattle.bits.proofs.Truth.{both-true, or-elim, clash, cond-first, cond-second}
-use Rattle.bits.proofs.SetLaws.{none-lowest, Left, left-start, left-on, left-here, left-end, First, first-is, first-none}
-use Rattle.bits.proofs.Promises.{no-second}
+use Rattle.bits.proofs.SetLaws.{none-lowest, Left, left-start, left-on, left-here, left-end, first-none}
 use Rattle.bits.proofs.ListLaws.{listed-length, listed-at}
 use Rattle.pack.specs.declared.check.Refusal.{Refusal}
 use Rattle.pack.specs.declared.check.Checked.{Checked}
@@ -25,14 +24,16 @@ use Rattle.pack.specs.World.{Follows}
 use Rattle.pack.specs.Rules.{conclusionOf, Derived, given, by, free, sameFact}
 use Rattle.pack.specs.Bytes.{part}
 use Rattle.pack.specs.Record.{linesOf, Valid}
-use Rattle.pack.specs.Question.{counted, checkQuestion}
+use Rattle.pack.specs.Question.{counted}
+use Rattle.pack.specs.Computed.{checkQuestion}
 use Rattle.pack.proofs.RuleLaws.{same-one}
 use Rattle.pack.proofs.Soundness.{derived-follows}
 use Rattle.tables.specs.Tables.{heldIn, held, addedConcepts, addedLinks, startTables, Whole}
 use Rattle.tables.proofs.TableLaws.{start-whole, start-held, held-added, whole-added}
 use Rattle.yes.specs.declared.check.YesAnswer.{YesAnswer}
 use Rattle.yes.specs.declared.check.YesAnswer.the-variants as yes
-use Rattle.yes.specs.YesSheet.{stepIn, zerosIn, stepsOf, concluded, known, goodOver, goodAt, lowestBad, checkSteps, yesLengthFits, yesAfter, checkYes}
+use Rattle.yes.specs.YesSheet.{stepIn, zerosIn, stepsOf, concluded, known, goodOver, goodAt, yesLengthFits}
+use Rattle.yes.specs.Computed.{lowestBad, checkSteps, yesAfter, checkYes}
 use Rattle.yes.proofs.StepLaws.{good-same, good, conclusion-in-table}
 
 -- the steps of a sheet, one more
@@ -157,14 +158,6 @@ module _ (ls : List Line) (S : ℕ → Bool) (n : ℕ) (sheet : List ℕ) where
       let none = none-lowest failsAt 0 (length sheet / 8) (λ j h l. ap not (g .all j (omega (arith, zero-add (length sheet / 8))))) in
       rw (le-ltb (lowestBad ls S n sheet) (length sheet / 8) (omega arith), g .goal)
 
-  step-bad-at : (a b i : ℕ) → checkSteps ls S n a b sheet ≡ yes.Step i → First failsAt (length sheet / 8) i
-  unfolding checkSteps lowestBad
-  step-bad-at a b i e =
-      let t = cond-first (ltb (lowestBad ls S n sheet) (length sheet / 8)) e (λ q. let p = cond-first (known ls n (stepsOf sheet) (In a b)) q (λ q. clash cc) .1 in clash cc) in
-      let stops = t .1 in
-      let same : lowestBad ls S n sheet ≡ i = cc in
-      rw (← same) (first-is failsAt refl (ltb-true (lowestBad ls S n sheet) (length sheet / 8) (t .0)))
-
   -- WHAT IS KNOWN AFTER GOOD STEPS is derived from the free facts
   known-derived : (i : ℕ) → i ≤ length sheet / 8 → ((j : ℕ) → j < i → goodAt ls S n sheet j ≡ true) → (f : Fact) → known ls n (take i (stepsOf sheet)) f ≡ true → Derived ls S n (free n) f
   unfolding goodAt
@@ -195,20 +188,12 @@ module _ (n m : ℕ) (s ws : List ℕ) (a b : ℕ) (sheet : List ℕ) where
       after (checked.Count k) h = cond-first (yesLengthFits sheet) h fits .1
 
   -- AN ACCEPTED SHEET IS RIGHT: the goal follows from the marked records
-  pub yes-right : checkYes n m s ws a b sheet ≡ yes.Accepted → Follows (linesOf s) (counted s ws) a b
-  yes-right h = good-follows (linesOf s) (counted s ws) n sheet (accepted-good (linesOf s) (counted s ws) n sheet a b (by-steps h (λ why q. clash cc) (λ q. clash cc)))
+  pub yes-sound : checkYes n m s ws a b sheet ≡ yes.Accepted → Follows (linesOf s) (counted s ws) a b
+  yes-sound h = good-follows (linesOf s) (counted s ws) n sheet (accepted-good (linesOf s) (counted s ws) n sheet a b (by-steps h (λ why q. clash cc) (λ q. clash cc)))
 
   -- EVERY SHEET OF GOOD STEPS THAT SHOWS THE GOAL IS ACCEPTED
-  pub yes-accepts : {k : ℕ} → checkQuestion n m s ws a b ≡ checked.Count k → yesLengthFits sheet ≡ true
+  pub good-accepts : {k : ℕ} → checkQuestion n m s ws a b ≡ checked.Count k → yesLengthFits sheet ≡ true
       → ((i : ℕ) → i < length sheet / 8 → goodAt (linesOf s) (counted s ws) n sheet i ≡ true) → known (linesOf s) n (stepsOf sheet) (In a b) ≡ true
       → checkYes n m s ws a b sheet ≡ yes.Accepted
   unfolding checkYes
-  yes-accepts e l g k = rw (e, l) (good-accepted (linesOf s) (counted s ws) n sheet (record { all = g; goal = k }))
-
-  -- STEP GIVES THE LOWEST STEP that is not good
-  pub step-lowest : {i : ℕ} → checkYes n m s ws a b sheet ≡ yes.Step i → First (failsAt (linesOf s) (counted s ws) n sheet) (length sheet / 8) i
-  step-lowest {i} h = step-bad-at (linesOf s) (counted s ws) n sheet a b i (by-steps h (λ why q. clash cc) (λ q. clash cc))
-
-  -- NO SECOND RESULT satisfies the promise of the check
-  pub yes-fixed : (r r′ : YesAnswer) → r ≡ checkYes n m s ws a b sheet → r′ ≡ checkYes n m s ws a b sheet → r ≡ r′
-  yes-fixed r r′ = no-second
+  good-accepts e l g k = rw (e, l) (good-accepted (linesOf s) (counted s ws) n sheet (record { all = g; goal = k }))

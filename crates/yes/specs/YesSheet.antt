@@ -1,24 +1,16 @@
 -- A yes sheet: steps of 8 bytes, each good by the steps before it.
-use mathlib.Core.Bool.{Bool, false, cond, not, _&&_, _||_}
+use mathlib.Core.Bool.{Bool, false, _&&_, _||_}
 use mathlib.Core.List.{List, [], _∷_}
 use Prim.Native.Nat.{ℕ, _/_, _%_}
-use lib.Dec.{eqb, ltb, leb}
+use lib.Dec.{eqb, leb}
 use lib.ListN.{length, getD, take}
-use Rattle.bits.specs.Sets.{lowest}
 use Rattle.bits.specs.Lists.{listed}
-use Rattle.pack.specs.declared.check.Checked.{Checked}
-use Rattle.pack.specs.declared.check.Checked.the-variants as checked
 use Rattle.pack.specs.declared.line.Fact.{Fact}
-use Rattle.pack.specs.declared.line.Fact.the-variants.{In}
 use Rattle.pack.specs.declared.line.Line.{Line}
+use Rattle.pack.specs.declared.line.Rule.{Rule}
 use Rattle.pack.specs.declared.line.Step.{Step}
-use Rattle.pack.specs.World.{lineAt}
-use Rattle.pack.specs.Rules.{premiseOne, premiseTwo, conclusionOf, usable, free, sameFact}
+use Rattle.pack.specs.Rules.{ruleAt, conclusionOf, usable, free, sameFact}
 use Rattle.pack.specs.Bytes.{littleEndian, part}
-use Rattle.pack.specs.Record.{linesOf}
-use Rattle.pack.specs.Question.{counted, checkQuestion}
-use Rattle.yes.specs.declared.check.YesAnswer.{YesAnswer}
-use Rattle.yes.specs.declared.check.YesAnswer.the-variants as yes
 
 -- the step in an 8-byte part: record place (two bytes), X, Y, Z, and three bytes that are zero
 abbrev pub stepIn : List ℕ → Step
@@ -40,38 +32,19 @@ concluded ls (s ∷ ss) f = sameFact (conclusionOf ls s) f || concluded ls ss f
 unfoldable pub known : List Line → ℕ → List Step → Fact → Bool
 known ls n ss f = free n f || concluded ls ss f
 
--- the premises of a line at a step are known
-abbrev pub premisesKnown : Line → (Fact → Bool) → Step → Bool
-premisesKnown l K s = K (premiseOne l (s .x) (s .y)) && K (premiseTwo l (s .x) (s .y) (s .z))
+-- the premises of a rule are known
+abbrev pub premisesKnown : Rule → (Fact → Bool) → Bool
+premisesKnown rule K = K (rule .one) && K (rule .two)
 
 -- a step is good over what is known: it is usable, and its premises are known
 unfoldable pub goodOver : List Line → (ℕ → Bool) → ℕ → (Fact → Bool) → Step → Bool
-goodOver ls S n K s = usable ls S n s && premisesKnown (lineAt ls (s .place)) K s
+goodOver ls S n K s = usable ls S n s && premisesKnown (ruleAt ls s) K
 
 -- step i of a sheet is good: its zeros are zero, and each premise is free or concluded by an earlier step
 unfoldable pub goodAt : List Line → (ℕ → Bool) → ℕ → List ℕ → ℕ → Bool
 goodAt ls S n sheet i =
     zerosIn (part sheet i) && goodOver ls S n (known ls n (take i (stepsOf sheet))) (stepIn (part sheet i))
 
--- the lowest step that is not good, or the number of steps
-unfoldable pub lowestBad : List Line → (ℕ → Bool) → ℕ → List ℕ → ℕ
-lowestBad ls S n sheet = lowest (λ i. not (goodAt ls S n sheet i)) 0 (length sheet / 8)
-
--- 10 STEP, 13 NOT SHOWN, else ACCEPTED
-unfoldable pub checkSteps : List Line → (ℕ → Bool) → ℕ → ℕ → ℕ → List ℕ → YesAnswer
-checkSteps ls S n a b sheet =
-    cond (ltb (lowestBad ls S n sheet) (length sheet / 8))
-    (yes.Step (lowestBad ls S n sheet))
-    (cond (known ls n (stepsOf sheet) (In a b)) yes.Accepted yes.NotShown)
-
 -- a multiple of 8, at most 65,536 steps
 abbrev pub yesLengthFits : List ℕ → Bool
 yesLengthFits sheet = eqb (length sheet % 8) 0 && leb (length sheet) 524288
-
--- 1 to 5, 9 LENGTH, then the steps
-abbrev pub yesAfter : Checked → ℕ → List ℕ → List ℕ → ℕ → ℕ → List ℕ → YesAnswer
-yesAfter (checked.Refused why) n s ws a b sheet = yes.Refused why
-yesAfter (checked.Count k) n s ws a b sheet = cond (yesLengthFits sheet) (checkSteps (linesOf s) (counted s ws) n a b sheet) yes.Length
-
-unfoldable pub checkYes : ℕ → ℕ → List ℕ → List ℕ → ℕ → ℕ → List ℕ → YesAnswer
-checkYes n m s ws a b sheet = yesAfter (checkQuestion n m s ws a b) n s ws a b sheet

@@ -3,10 +3,10 @@ ghost use mathlib.Core.Path.{_≡_};
 ghost use Prim.Native.Nat.{_≤_};
 ghost use lib.ListN.{length};
 ghost use Rattle.pack.specs.Record.{linesOf};
-ghost use Rattle.pack.specs.Question.{counted, Taken};
-ghost use Rattle.pack.specs.Table.{Given};
-ghost use Rattle.yes.specs.YesSheet.{checkSteps, checkYes};
-ghost use Rattle.yes.specs.Answers.{yesNumber, yesPlace, yesTable};
+ghost use Rattle.pack.specs.Question.{counted};
+ghost use Rattle.pack.specs.Computed.{Admitted};
+ghost use Rattle.yes.specs.Computed.{checkSteps, checkYes};
+ghost use Rattle.yes.specs.Answers.{yesTold, GivesYes};
 use crate::step::check_step;
 use pack::check::Checked;
 use pack::check::Refusal;
@@ -33,7 +33,7 @@ fn check_steps<'a>(
     b: usize,
     sheet: &'a [u8],
 ) -> YesAnswer
-    requires { ⌜ Taken n m (now pack) (now marks) a b × (length (now sheet) ≤ 524288) ⌝ }
+    requires { ⌜ Admitted n m (now pack) (now marks) a b × (length (now sheet) ≤ 524288) ⌝ }
     ensures { λ r. ⌜ r ≡ checkSteps (linesOf (now (pack .entry))) (counted (now (pack .entry)) (now (marks .entry))) n a b (now (sheet .entry)) ⌝ }
 {
     let start = start_tables(n);
@@ -67,7 +67,7 @@ fn check_yes_counted<'a>(
     b: usize,
     sheet: &'a [u8],
 ) -> YesAnswer
-    requires { ⌜ Taken n m (now pack) (now marks) a b ⌝ }
+    requires { ⌜ Admitted n m (now pack) (now marks) a b ⌝ }
     ensures { λ r. ⌜ r ≡ checkYes n m (now (pack .entry)) (now (marks .entry)) a b (now (sheet .entry)) ⌝ }
 {
     if sheet.len() % 8 != 0 {
@@ -89,8 +89,7 @@ pub fn check_yes<'a>(
     b: usize,
     sheet: &'a [u8],
 ) -> YesAnswer
-    ensures answer { λ r. ⌜ r ≡ checkYes n m (now (pack .entry)) (now (marks .entry)) a b (now (sheet .entry)) ⌝ }
-    ensures table { λ r. ⌜ Given (yesNumber r) (yesPlace r) 0 (yesTable n m (now (pack .entry)) (now (marks .entry)) a b (now (sheet .entry))) ⌝ }
+    ensures { λ r. ⌜ GivesYes n m (now (pack .entry)) (now (marks .entry)) a b (now (sheet .entry)) (yesTold r .0) (yesTold r .1) ⌝ }
 {
     let checked = check_question(n, m, pack, marks, a, b);
     match checked {

@@ -11,13 +11,10 @@ ghost use Rattle.tables.specs.Tables.{held, addedConcepts, addedLinks};
 ghost use Rattle.yes.specs.YesSheet.{stepIn, zerosIn, goodOver};
 use marks::look::is_marked;
 use pack::bytes::two_bytes;
-use pack::line::Line;
 use pack::line::Rule;
 use pack::line::Step;
 use pack::line::line_at;
 use pack::line::rule_of;
-use pack::line::uses_y;
-use pack::line::uses_z;
 use tables::add_fact;
 use tables::fact_held;
 
@@ -52,12 +49,12 @@ fn number_fits(used: bool, y: u8, n: usize) -> bool
     if used { (y as usize) < n } else { y == 0 }
 }
 
-// Do a step's numbers fit the line?
-fn numbers_fit(l: Line, s: Step, n: usize) -> bool
-    ensures { λ r. ⌜ r ≡ numbersFit l n s ⌝ }
+// Do a step's numbers fit the rule: X below n, and Y and Z each used or zero?
+fn numbers_fit(rule: Rule, s: Step, n: usize) -> bool
+    ensures { λ r. ⌜ r ≡ numbersFit rule n s ⌝ }
 {
     let low = (s.x as usize) < n;
-    low & (number_fits(uses_y(l), s.y, n) & number_fits(uses_z(l), s.z, n))
+    low & (number_fits(1 < rule.uses, s.y, n) & number_fits(2 < rule.uses, s.z, n))
 }
 
 // Are the premises of the rule held?
@@ -95,9 +92,8 @@ pub fn check_step<'a>(
     let place = s.place;
     if zeros_zero(part) {
         if place_counts(pack, marks, place) {
-            let l = line_at(pack, place);
-            if numbers_fit(l, s, n) {
-                let rule = rule_of(l, s.x, s.y, s.z);
+            let rule = rule_of(line_at(pack, place), s.x, s.y, s.z);
+            if numbers_fit(rule, s, n) {
                 if premises_held(rule, concepts, links) {
                     let gives = rule.gives;
                     add_fact(gives, concepts, links);

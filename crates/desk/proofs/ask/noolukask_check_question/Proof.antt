@@ -1,17 +1,21 @@
 -- `noolukask_check_question`: 128 bytes of marks are 16 words, and others are none; then the code of the answer.
 use borrow.Author.Needs.{needs}
 use borrow.Author.Tests.{eq-eqb}
-use Rattle.desk.specs.Desk.{questionCode}
-use Rattle.desk.proofs.UnreadLaws.{question-unread}
+use Rattle.pack.specs.Computed.{checkedNumber, checkedValue}
+use Rattle.pack.specs.Question.{GivesQuestion}
+use Rattle.desk.proofs.CodeLaws.{checked-small, coded}
+use Rattle.desk.proofs.MarksLaws.{question-unread}
 use Rattle.desk.proofs.ask.noolukask_check_question.Statement.{statement}
 use Rattle.desk.proofs.ask.noolukask_check_question.Tie as tie
 
 returns : tie.Need-returns
-returns c = question-unread _ _ _ _ _ _ (c .unread-code .ensures) (c .before .if1 .taken)
+returns c = question-unread _ _ _ (c .before .before .before .before .args .marks .now) _ _ (c .unread-code .ensures) (c .before .if1 .taken)
 
 returns-2 : tie.Need-returns-2
-unfolding questionCode
-returns-2 c = rw (eq-eqb _ _ (c .before .before .before .before .if1 .left)) (rw (c .before .check-question .ensures .0, c .before .before .before .read-marks .ensures) at (c .checked-code .ensures))
+returns-2 c =
+    let x = c .before .check-question .result in
+    rw (eq-eqb _ _ (c .before .before .before .before .if1 .left), ← c .before .before .before .read-marks .ensures)
+    (coded (GivesQuestion _ _ _ _ _ _) (checkedNumber x) (checkedValue x) (checked-small x) (c .checked-code .ensures) (c .before .check-question .ensures))
 
 pub noolukask-check-question-spec : {M : Type 1} → statement M
 noolukask-check-question-spec =

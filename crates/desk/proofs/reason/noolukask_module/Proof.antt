@@ -3,8 +3,7 @@
 use mathlib.Core.Path.{_≡_, refl, sym, _∙_}
 use lib.ListN.{length}
 use borrow.Author.Needs.{needs}
-use Rattle.desk.proofs.UnreadLaws.{read-both, module-unread}
-use Rattle.desk.proofs.MarksLaws.{module-read}
+use Rattle.desk.proofs.MarksLaws.{read-both, module-unread, module-read}
 use Rattle.desk.proofs.reason.noolukask_module.Statement.{statement}
 use Rattle.desk.proofs.reason.noolukask_module.Tie as tie
 
@@ -25,11 +24,11 @@ module-code-requires c κs = (search needs, lengths (c .before .before .before .
 
 returns-2 : tie.Need-returns-2
 returns-2 c =
-    let found = c .before .before .before .before .before .before .module-for .ensures .0 in
+    let found = c .before .before .before .before .before .before .module-for in
     let words = c .before .before .before .before .before .before .before .before .before .read-marks .ensures in
     let code = c .before .before .module-code .ensures in
     let both = lengths (c .before .before .before .before .before .before .before .before .before .before) in
-    module-read _ _ _ _ _ _ _ (both .0) (both .1) refl (rw words at (found .0)) (rw words at (found .1)) (code .0) (code .1)
+    module-read _ _ _ _ _ (both .0) (both .1) _ (found .result) refl (rw words at (found .ensures)) (code .0) (code .1)
 
 pub noolukask-module-spec : {M : Type 1} → statement M
 noolukask-module-spec =

@@ -3,8 +3,7 @@
 use mathlib.Core.Path.{_≡_, refl, sym, _∙_}
 use lib.ListN.{length}
 use borrow.Author.Needs.{needs}
-use Rattle.desk.proofs.UnreadLaws.{read-both, set-unread}
-use Rattle.desk.proofs.MarksLaws.{set-read}
+use Rattle.desk.proofs.MarksLaws.{read-both, set-unread, set-read}
 use Rattle.desk.proofs.reason.noolukask_printed_set.Statement.{statement}
 use Rattle.desk.proofs.reason.noolukask_printed_set.Tie as tie
 
@@ -25,11 +24,11 @@ set-code-requires c κs = (search needs, lengths (c .before .before .before .bef
 
 returns-2 : tie.Need-returns-2
 returns-2 c =
-    let found = c .before .before .before .before .before .before .printed-set .ensures .0 in
+    let found = c .before .before .before .before .before .before .printed-set in
     let words = c .before .before .before .before .before .before .before .before .before .read-marks .ensures in
     let code = c .before .before .set-code .ensures in
     let both = lengths (c .before .before .before .before .before .before .before .before .before .before) in
-    set-read _ _ _ _ _ _ _ _ (both .0) (both .1) refl (rw words at (found .0)) (rw words at (found .1)) (code .0) (code .1)
+    set-read _ _ _ _ _ (both .0) (both .1) _ _ (found .result) refl (rw words at (found .ensures)) (code .0) (code .1)
 
 pub noolukask-printed-set-spec : {M : Type 1} → statement M
 noolukask-printed-set-spec =

@@ -3,7 +3,7 @@ use native.Mathlib.Omega.{arith}
 use borrow.Author.Needs.{needs}
 use borrow.Author.Tests.{le-leb, lt-leb, ne-eqb, eq-eqb}
 use Rattle.pack.proofs.QuestionLaws.{asked}
-use Rattle.no.specs.NoSheet.{checkNo}
+use Rattle.no.specs.Computed.{checkNo}
 use Rattle.no.proofs.NoLaws.{whole-rows}
 use Rattle.no.proofs.check.check_no_counted.Statement.{statement}
 use Rattle.no.proofs.check.check_no_counted.Tie as tie

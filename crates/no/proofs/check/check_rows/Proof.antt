@@ -6,7 +6,8 @@ use borrow.Author.Tests.{lt-ltb, le-ltb}
 use Rattle.pack.specs.Record.{linesOf}
 use Rattle.pack.proofs.RecordLaws.{lines-valid}
 use Rattle.pack.proofs.QuestionLaws.{asked}
-use Rattle.no.specs.NoSheet.{rowsOf, checkRows}
+use Rattle.no.specs.NoSheet.{rowsOf}
+use Rattle.no.specs.Computed.{checkRows}
 use Rattle.no.proofs.NoLaws.{rows-few, things-fit, lines-fit, all-rows}
 use Rattle.no.proofs.check.check_rows.Statement.{statement}
 use Rattle.no.proofs.check.check_rows.Tie as tie

@@ -3,7 +3,7 @@ use mathlib.Core.Path.{sym, _∙_}
 use borrow.Author.Needs.{needs}
 use borrow.Author.Tests.{lt-ltb, le-ltb}
 use Rattle.pack.proofs.RecordLaws.{lines-length}
-use Rattle.no.specs.NoSheet.{checkWorld}
+use Rattle.no.specs.Computed.{checkWorld}
 use Rattle.no.proofs.check.check_world.Statement.{statement}
 use Rattle.no.proofs.check.check_world.Tie as tie
 

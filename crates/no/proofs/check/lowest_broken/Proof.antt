@@ -8,7 +8,8 @@ use Rattle.bits.proofs.SetLaws.{Left, left-start, left-on, left-here, left-end}
 use Rattle.pack.specs.Question.{counted}
 use Rattle.pack.specs.Record.{linesOf}
 use Rattle.pack.proofs.RecordLaws.{lines-length}
-use Rattle.no.specs.NoSheet.{worldOf, lowestBroken}
+use Rattle.no.specs.NoSheet.{worldOf}
+use Rattle.no.specs.Computed.{lowestBroken}
 use Rattle.no.proofs.NoLaws.{brokenAt}
 use Rattle.no.proofs.check.lowest_broken.Statement.{statement}
 use Rattle.no.proofs.check.lowest_broken.Tie as tie

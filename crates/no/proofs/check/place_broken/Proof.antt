@@ -3,7 +3,7 @@ use mathlib.Core.Path.{sym, ap, _∙_}
 use mathlib.Core.Bool.{not}
 use native.Mathlib.Omega.{arith}
 use borrow.Author.Needs.{needs}
-use Rattle.pack.specs.World.{obeys}
+use Rattle.pack.specs.Computed.{obeys}
 use Rattle.pack.proofs.RecordLaws.{lines-length, lines-at}
 use Rattle.no.specs.NoSheet.{worldOf}
 use Rattle.no.proofs.check.place_broken.Statement.{statement}

@@ -5,7 +5,8 @@ use Prim.Native.Nat.{_≤_, _-_}
 use native.Mathlib.Omega.{arith}
 use Rattle.bits.specs.Sets.{lowest}
 use Rattle.bits.proofs.SetLaws.{Left, left-start, left-on, left-here, left-end}
-use Rattle.no.specs.NoSheet.{forbidden, lowestForbidden}
+use Rattle.no.specs.NoSheet.{forbidden}
+use Rattle.no.specs.Computed.{lowestForbidden}
 use Rattle.no.proofs.row.lowest_forbidden.Statement.{statement}
 use Rattle.no.proofs.row.lowest_forbidden.Tie as tie
 

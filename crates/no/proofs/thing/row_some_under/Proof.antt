@@ -1,7 +1,7 @@
 -- `row_some_under`: whether the rows meet, and a bit below 64 (`low`).
 use borrow.Author.Needs.{needs}
 use Rattle.bits.proofs.BitLaws.{low}
-use Rattle.pack.specs.World.{implies}
+use Rattle.pack.specs.Computed.{implies}
 use Rattle.no.proofs.thing.row_some_under.Statement.{statement}
 use Rattle.no.proofs.thing.row_some_under.Tie as tie
 

@@ -1,7 +1,7 @@
 -- `row_under`: two bits, both below 64, so that bit j mod 64 is bit j (`low`).
 use borrow.Author.Needs.{needs}
 use Rattle.bits.proofs.BitLaws.{low}
-use Rattle.pack.specs.World.{implies}
+use Rattle.pack.specs.Computed.{implies}
 use Rattle.no.proofs.thing.row_under.Statement.{statement}
 use Rattle.no.proofs.thing.row_under.Tie as tie
 

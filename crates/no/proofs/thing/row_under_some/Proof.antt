@@ -1,7 +1,7 @@
 -- `row_under_some`: a bit below 64 (`low`), and whether the rows meet.
 use borrow.Author.Needs.{needs}
 use Rattle.bits.proofs.BitLaws.{low}
-use Rattle.pack.specs.World.{implies}
+use Rattle.pack.specs.Computed.{implies}
 use Rattle.no.proofs.thing.row_under_some.Statement.{statement}
 use Rattle.no.proofs.thing.row_under_some.Tie as tie
 

@@ -4,7 +4,7 @@ use mathlib.Core.Path.{ap, _∙_}
 use mathlib.Core.Bool.{Bool}
 use borrow.Author.Needs.{needs}
 use Rattle.bits.specs.Bit.{has}
-use Rattle.pack.specs.World.{implies, obeysAt}
+use Rattle.pack.specs.Computed.{implies, obeysAt}
 use Rattle.no.specs.NoSheet.{rowAt}
 use Rattle.no.proofs.WorldRows.{meets-things, inside-things, chain-things}
 use Rattle.no.proofs.thing.thing_obeys.Statement.{statement}

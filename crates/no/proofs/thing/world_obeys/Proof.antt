@@ -5,7 +5,7 @@ use Prim.Native.Nat.{ℕ, _≤_, _<_, _-_}
 use native.Mathlib.Omega.{arith}
 use borrow.Author.Count.{below-more}
 use Rattle.bits.proofs.SetLaws.{true-every, every-false}
-use Rattle.pack.specs.World.{obeysAt, obeys}
+use Rattle.pack.specs.Computed.{obeysAt, obeys}
 use Rattle.no.specs.NoSheet.{worldOf}
 use Rattle.no.proofs.thing.world_obeys.Statement.{statement}
 use Rattle.no.proofs.thing.world_obeys.Tie as tie

@@ -6,7 +6,8 @@ use native.Mathlib.Omega.{arith}
 use borrow.Author.Count.{below-more}
 use Rattle.bits.specs.Bit.{has}
 use Rattle.bits.proofs.SetLaws.{true-some, some-false}
-use Rattle.no.specs.NoSheet.{rowAt, refutes}
+use Rattle.no.specs.NoSheet.{rowAt}
+use Rattle.no.specs.Computed.{refutes}
 use Rattle.no.proofs.thing.world_refutes.Statement.{statement}
 use Rattle.no.proofs.thing.world_refutes.Tie as tie
 

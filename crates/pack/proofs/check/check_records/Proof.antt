@@ -5,7 +5,7 @@ use mathlib.Core.Bool.{not}
 use Prim.Native.Nat.{_≤_, _-_}
 use native.Mathlib.Omega.{arith}
 use Rattle.bits.proofs.SetLaws.{Left, left-start, left-on, left-here, left-end}
-use Rattle.pack.specs.Pack.{lowestUnkept}
+use Rattle.pack.specs.Computed.{lowestUnkept}
 use Rattle.pack.specs.Record.{recordCount}
 use Rattle.pack.proofs.PackLaws.{unkept, broken-here, broken-none}
 use Rattle.pack.proofs.check.check_records.Statement.{statement}

@@ -1,9 +1,8 @@
 -- `module_for`: the question's refusal, out marks as they were (`module-refused`), or the module (`module-taken`).
 use mathlib.Core.Path.{sym, _∙_}
 use borrow.Author.Needs.{needs}
-use Rattle.reasons.proofs.ModuleLaws.{module-taken, module-refused}
 use Rattle.reasons.proofs.OutLaws.{reason-taken}
-use Rattle.reasons.proofs.GivenLaws.{module-told}
+use Rattle.reasons.proofs.Promises.{module-taken, module-refused}
 use Rattle.reasons.proofs.module.module_for.Statement.{statement}
 use Rattle.reasons.proofs.module.module_for.Tie as tie
 
@@ -19,15 +18,14 @@ put-module-requires c κs =
 returns : tie.Need-returns
 returns c =
     let a = c .before .before .before .before .before .before .before .args in
-    let t = module-refused _ _ _ (a .marks .now) (a .a) (a .out .now) (sym (c .before .before .before .check-reason .ensures) ∙ c .before .checked .given .1) in
-    module-told (a .n) (a .m) (a .pack .now) (a .marks .now) (a .a) (a .out .now) (sym (t .0), sym (t .1))
+    module-refused (a .n) (a .m) (a .pack .now) (a .marks .now) (a .a) (a .out .now) {why = c .before .checked .given .0 .0} (sym (c .before .before .before .check-reason .ensures) ∙ c .before .checked .given .1)
 
 returns-2 : tie.Need-returns-2
 returns-2 c =
     let a = c .before .before .before .before .before .before .before .before .before .before .args in
     let put = c .before .before .put-module .ensures in
-    let t = module-taken _ _ _ (a .marks .now) (a .a) (a .out .now) (sym (c .before .before .before .before .before .before .check-reason .ensures) ∙ c .before .before .before .before .enum-told .given .1) in
-    module-told (a .n) (a .m) (a .pack .now) (a .marks .now) (a .a) (a .out .now) (put .0 ∙ sym (t .0), put .1 ∙ sym (t .1))
+    let e = sym (c .before .before .before .before .before .before .check-reason .ensures) ∙ c .before .before .before .before .enum-told .given .1 in
+    rw (put .0) (module-taken (a .n) (a .m) (a .pack .now) (a .marks .now) (a .a) (a .out .now) e (put .1))
 
 pub module-for-spec : {M : Type 1} → statement M
 module-for-spec =

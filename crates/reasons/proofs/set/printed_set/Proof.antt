@@ -1,9 +1,8 @@
--- `printed_set`: the question's refusal (`set-refused`), or what the verdict lets be written (`set-asked`).
+-- `printed_set`: the question's refusal (`set-refused`), or what the verdict lets be written (`set-taken`).
 use mathlib.Core.Path.{sym, _∙_}
 use borrow.Author.Needs.{needs}
 use Rattle.reasons.proofs.OutLaws.{reason-taken}
-use Rattle.reasons.proofs.GivenLaws.{set-told}
-use Rattle.reasons.proofs.AnswerLaws.{set-refused, set-asked}
+use Rattle.reasons.proofs.Promises.{set-refused, set-taken}
 use Rattle.reasons.proofs.set.printed_set.Statement.{statement}
 use Rattle.reasons.proofs.set.printed_set.Tie as tie
 
@@ -19,15 +18,13 @@ set-taken-requires c κs =
 returns : tie.Need-returns
 returns c =
     let a = c .before .before .before .before .before .before .before .args in
-    let t = set-refused _ _ _ (a .marks .now) (a .a) (a .b) (a .out .now) (sym (c .before .before .before .check-reason .ensures) ∙ c .before .checked .given .1) in
-    set-told (a .n) (a .m) (a .pack .now) (a .marks .now) (a .a) (a .b) (a .out .now) (sym (t .0), sym (t .1))
+    set-refused (a .n) (a .m) (a .pack .now) (a .marks .now) (a .a) (a .b) (a .out .now) {why = c .before .checked .given .0 .0} (sym (c .before .before .before .check-reason .ensures) ∙ c .before .checked .given .1)
 
 returns-2 : tie.Need-returns-2
 returns-2 c =
     let a = c .before .before .before .before .before .before .before .before .before .before .args in
-    let put = c .before .before .set-taken .ensures in
-    let t = set-asked _ _ _ (a .marks .now) (a .a) (a .b) (a .out .now) (sym (c .before .before .before .before .before .before .check-reason .ensures) ∙ c .before .before .before .before .enum-told .given .1) in
-    set-told (a .n) (a .m) (a .pack .now) (a .marks .now) (a .a) (a .b) (a .out .now) (put .0 ∙ sym (t .0), rw (put .0) at (put .1) ∙ sym (t .1))
+    let e = sym (c .before .before .before .before .before .before .check-reason .ensures) ∙ c .before .before .before .before .enum-told .given .1 in
+    set-taken (a .n) (a .m) (a .pack .now) (a .marks .now) (a .a) (a .b) (a .out .now) e (c .before .before .set-taken .result) (c .before .before .set-taken .ensures)
 
 pub printed-set-spec : {M : Type 1} → statement M
 printed-set-spec =

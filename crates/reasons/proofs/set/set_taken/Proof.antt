@@ -1,7 +1,7 @@
--- `set_taken`: the verdict is FOLLOWS where the goal follows, else NOT (`verdict-right`), and the out words stay.
+-- `set_taken`: the set where the goal follows, else 7, and the out words stay.
 use mathlib.Core.Path.{refl}
+use mathlib.Core.Logic.{inl, inr}
 use borrow.Author.Needs.{needs}
-use Rattle.engine.proofs.VerdictRight.{verdict-right}
 use Rattle.reasons.proofs.set.set_taken.Statement.{statement}
 use Rattle.reasons.proofs.set.set_taken.Tie as tie
 
@@ -12,15 +12,12 @@ put-set-requires c κs =
 
 returns : tie.Need-returns
 returns c =
-    let pre = c .before .before .before .before .before .before .before .before .before .pre in
     let put = c .before .before .put-set .ensures in
     let f = c .before .before .before .before .before .goal-holds .ensures .0 (c .before .before .before .before .if1 .taken) in
-    (rw (verdict-right _ _ _ _ _ _ (pre .0 .1) .0 .1 f) (put .0), rw (put .0) (put .1))
+    inl (f, put .0, put .1)
 
 returns-2 : tie.Need-returns-2
-returns-2 c =
-    let pre = c .before .before .before .before .before .pre in
-    (rw (verdict-right _ _ _ _ _ _ (pre .0 .1) .1 .1 (c .before .goal-holds .ensures .1 (c .if1 .left))), refl)
+returns-2 c = inr (c .before .goal-holds .ensures .1 (c .if1 .left), refl, refl)
 
 pub set-taken-spec : {M : Type 1} → statement M
 set-taken-spec =

@@ -1,3 +1,0 @@
--- Laws of the input.
-pub mod InputLaws
-pub mod PartsLaws

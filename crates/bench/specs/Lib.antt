@@ -1,3 +1,0 @@
--- What standard input asks.
-pub mod Input
-pub mod Parts

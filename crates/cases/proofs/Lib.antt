@@ -1,0 +1,3 @@
+-- That every row of the table holds.
+pub mod CaseLaws
+pub mod Cases
