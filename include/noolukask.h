@@ -14,6 +14,7 @@
  *             4      some r A under B     r,  A,  B
  *             5      r under s            r,  s,  0
  *             6      r then s under t     r,  s,  t
+ *             7      everything r itself  r,  0,  0
  *   marks   128 bytes: 16 little-endian words of 64 bits; record i counts when
  *           bit i mod 64 of word i div 64 is set, that is bit i mod 8 of byte
  *           i div 8; no bit at or above the record count may be set
@@ -95,10 +96,11 @@ uint64_t noolukask_write_sheet(uint64_t n, uint64_t m,
                                uint8_t *sheet, size_t sheet_len);
 
 /* The module for concept a, by names; concepts and roles are names, and those before
- * "under" are a record's left side. Take the smallest set of names that holds a and, with
- * all left-side names of a marked record, its right-side names: the module is the marked
- * records whose left-side names all lie in it. It holds every set of marked records from
- * which "a under .." follows and that can lose no record, and may hold more.
+ * "under" are a record's left side, of which kind 7 has none. Take the smallest set of
+ * names that holds a and, with all left-side names of a marked record, its right-side
+ * names: the module is the marked records whose left-side names all lie in it, every
+ * marked record of kind 7 among them. It holds every set of marked records from which
+ * "a under .." follows and that can lose no record, and may hold more.
  * Numbers 1 to 5, MARKS also for out that is not 128 bytes; else all 128 bytes of out
  * are set to the marks of the module, as marks has them, and the value is the number of
  * records that they mark. What out held before is not judged. Where a number of the
@@ -129,13 +131,14 @@ uint64_t noolukask_printed_set(uint64_t n, uint64_t m,
  */
 
 /* A yes sheet is 0 to 65,536 steps of 8 bytes: a record's place (two bytes,
- * little-endian), X, Y, Z, three zeros. Steps count from 0. Kinds 1 to 3 use X, kinds 4
- * and 5 X and Y, kind 6 all three; a used one is below n, an unused one is 0. Each step
- * draws one conclusion with a marked record; "X in X" is free, and every other premise
- * must be the conclusion of an earlier step:
+ * little-endian), X, Y, Z, three zeros. Steps count from 0. Kinds 1 to 3 and 7 use X,
+ * kinds 4 and 5 X and Y, kind 6 all three; a used one is below n, an unused one is 0.
+ * Each step draws one conclusion with a marked record; "X in X" is free, and every other
+ * premise must be the conclusion of an earlier step:
  *   1  X in A gives X in B              4  X r Y and Y in A give X in B
  *   2  X in A1 and A2 gives X in B      5  X r Y gives X s Y
  *   3  X in A gives X r B               6  X r Y and Y s Z give X t Z
+ *                                       7  nothing is needed for X r X
  * Accepted when every step is good and the goal is free or concluded.
  * Gives numbers 1 to 5, 9, 10 and 13. */
 uint64_t noolukask_check_yes(uint64_t n, uint64_t m,

@@ -48,7 +48,8 @@ fn question(rng: &mut Rng, q: &Question) {
     }
 }
 
-/// Small questions of all sizes, some of them with a byte of the pack damaged, and large ones.
+/// Small questions of all sizes, some of them with a byte of the pack damaged, and large ones: two of each shape at
+/// least. All kinds are in them, and in some a fifth of the records are of kind 7.
 pub fn assert_alike(rng: &mut Rng, progress: &mut Progress) {
     let what = "comparing what the programs answer";
     progress.begin(what);
@@ -61,7 +62,7 @@ pub fn assert_alike(rng: &mut Rng, progress: &mut Progress) {
         question(rng, &q);
         progress.go_on(what, turn);
     }
-    for turn in 0..40 {
+    for turn in 0..48 {
         let q = packs::large_question(rng, Shape::at(turn));
         question(rng, &q);
         progress.go_on(what, 1000 + turn as u32);

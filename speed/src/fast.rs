@@ -1,4 +1,4 @@
-//! The Rust checkers that the calls are measured against, written for speed from document 01:
+//! The Rust checkers that the calls are measured against, written for speed from documents 01 and 02:
 //! bit rows of u64, nothing allocated, one look at each step or row.
 
 use noolukask_tests::rules::Question;
@@ -72,11 +72,11 @@ pub fn check_pack(n: u64, m: u64, pack: &[u8]) -> u64 {
         return 2;
     }
     let (n, m) = (n as usize, m as usize);
-    // What a, b and c are below, by kind: no branch hangs on the kind. No kind is 0 or above 6.
-    let below = [[0; 3], [n, n, 1], [n, n, n], [n, m, n], [m, n, n], [m, m, 1], [m, m, m], [0; 3]];
+    // What a, b and c are below, by kind: no branch hangs on the kind. No kind is 0 or above 7.
+    let below = [[0; 3], [n, n, 1], [n, n, n], [n, m, n], [m, n, n], [m, m, 1], [m, m, m], [m, 1, 1], [0; 3]];
     for place in 0..pack.len() / 8 {
         let [kind, a, b, c] = fields(pack, place);
-        let [below_a, below_b, below_c] = below[kind.min(7)];
+        let [below_a, below_b, below_c] = below[kind.min(8)];
         if (a >= below_a) | (b >= below_b) | (c >= below_c) {
             return 3 + 256 * place as u64;
         }
@@ -158,7 +158,9 @@ fn rule(fields: [usize; 4]) -> Rule {
         3 => ([x_in(a), x_in(a)], numbered(role(b).wrapping_add(c), 64, 0, 0), no_y_z),
         4 => ([x_to_y(a), y_in(b)], x_in(c), no_z),
         5 => ([x_to_y(a), x_to_y(a)], x_to_y(b), no_z),
-        _ => ([x_to_y(a), y_to_z(b)], numbered(role(c), 64, 0, 1), 0),
+        6 => ([x_to_y(a), y_to_z(b)], numbered(role(c), 64, 0, 1), 0),
+        // It has no premise: "0 in 0" is free.
+        _ => ([numbered(0, 0, 0, 0); 2], numbered(role(a), 65, 0, 0), no_y_z),
     };
     Rule { premises, conclusion, zero: zero | u64::MAX << 40 }
 }
@@ -238,7 +240,8 @@ pub fn check_no<const PASS_OVER: bool>(q: &Question, sheet: &[u8]) -> u64 {
         3 => some_bit(columns[a], |x| links[b][x] & columns[c] == 0),
         4 => some_bit(low_bits(k) & !columns[c], |x| links[a][x] & columns[b] != 0),
         5 => (0..k).any(|x| links[a][x] & !links[b][x] != 0),
-        _ => breaks_chain::<PASS_OVER>(k, &links[a], &links[b], &links[c]),
+        6 => breaks_chain::<PASS_OVER>(k, &links[a], &links[b], &links[c]),
+        _ => (0..k).fold(0, |selves, x| selves | links[a][x] & 1 << x) != low_bits(k),
     };
     if let Some(place) = first_marked(&marks, |place| breaks(fields(&q.pack, place))) {
         return 12 + 16 * place as u64;

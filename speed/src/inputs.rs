@@ -23,6 +23,7 @@ pub struct Inputs {
     pub full: Answered,
     pub mixed: Vec<Question>,
     pub open: Question,
+    pub self_linked: Question,
     pub chains: Question,
     pub open_sheet: Question,
     pub staged: Question,
@@ -37,6 +38,7 @@ impl Inputs {
             full: full_no_sheet(rng),
             mixed: mixed_packs(rng),
             open: open_pack(rng, RECORDS),
+            self_linked: self_linked_pack(),
             chains: chains_on_full(rng),
             open_sheet: open_pack(rng, RECORDS),
             staged: staged_pack(rng, RECORDS),
@@ -50,7 +52,7 @@ pub fn reverse_to_the_end(n: u8) -> Question {
     Question { a: u64::from(n) - 1, b: 0, ..runs::reverse(n) }
 }
 
-/// 1,024 records of all kinds, every one marked.
+/// 1,024 records of kinds 1 to 6, every one marked.
 fn mixed_pack(rng: &mut Rng) -> Question {
     let any = |rng: &mut Rng| {
         let [kind, a, b, c] = [rng.between(1, 6), rng.below(64), rng.below(64), rng.below(64)];
@@ -74,7 +76,8 @@ fn record(kind: usize, a: usize, b: usize, c: usize) -> [u8; 4] {
         3 => [3, a, b % 8, c],
         4 => [4, a % 8, b, c],
         5 => [5, a % 8, b % 8, 0],
-        _ => [6, a % 8, b % 8, c % 8],
+        6 => [6, a % 8, b % 8, c % 8],
+        _ => [7, a % 8, 0, 0],
     };
     fields.map(|field| field as u8)
 }
@@ -220,7 +223,7 @@ fn full_no_sheet(rng: &mut Rng) -> Answered {
     (packs::question(64, 8, &world.pack(rng), 1, 0), world.sheet())
 }
 
-/// So many records of all kinds of which none puts anything into 0: that 1 is under 0 never follows.
+/// So many records of kinds 1 to 6 of which none puts anything into 0: that 1 is under 0 never follows.
 pub fn open_pack(rng: &mut Rng, count: usize) -> Question {
     let mut records = Vec::new();
     while records.len() < count {
@@ -235,6 +238,15 @@ pub fn open_pack(rng: &mut Rng, count: usize) -> Question {
         }
     }
     packs::question(64, 8, &records, 1, 0)
+}
+
+/// An open pack with a seed of its own, in which every fifth record is one of kind 7 instead.
+fn self_linked_pack() -> Question {
+    let mut q = open_pack(&mut Rng::new(7), RECORDS);
+    for (i, bytes) in q.pack.chunks_exact_mut(8).enumerate().filter(|(i, _)| i % 5 == 0) {
+        bytes[..4].copy_from_slice(&record(7, i, 0, 0));
+    }
+    q
 }
 
 /// The question with no chain marked.
@@ -260,7 +272,7 @@ fn stage(concept: usize) -> usize {
     (concept / 3).min(STAGES - 1)
 }
 
-/// So many records of all kinds, 128 or more and every one marked, whose printed set is about 30 of them: the
+/// So many records of kinds 1 to 6, 128 or more and every one marked, whose printed set is about 30 of them: the
 /// goal leads from the first stage to the last. From a stage to the next there are three ways, of one sort;
 /// every other record leads from concepts of a stage to concepts of the same or of earlier ones.
 pub fn staged_pack(rng: &mut Rng, count: usize) -> Question {

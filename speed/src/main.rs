@@ -143,6 +143,7 @@ fn measure_checks(bench: &mut Bench, inputs: &Inputs) {
 fn measure_engines(bench: &mut Bench, inputs: &Inputs) {
     bench.verdict("1,024 mixed records", HALF_MORE, &inputs.open);
     bench.verdict("1,024 mixed records but for the chains", None, &inputs::without_chains(&inputs.open));
+    bench.verdict("1,024 mixed records, a fifth of kind 7", None, &inputs.self_linked);
     bench.verdict("400 chains on full tables", HALF_MORE, &inputs.chains);
     bench.verdict("63 records in reverse (m = 0)", None, &inputs::reverse_to_the_end(64));
     bench.verdict("counters", None, &runs::counters(64, 8));

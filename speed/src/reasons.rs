@@ -1,4 +1,4 @@
-//! The Rust module and printed sets that the calls are measured against, written from document 01: the set by
+//! The Rust module and printed sets that the calls are measured against, written from documents 01 and 02: the set by
 //! halving within the module, and by deletion record by record. Both ask whether the goal follows from marks.
 
 use crate::concepts::Columns;
@@ -23,7 +23,8 @@ fn waiting(place: usize, [kind, a, b, c]: [usize; 4]) -> Waiting {
         3 => (concept(a), concept(c) | role(b)),
         4 => (concept(b) | role(a), concept(c)),
         5 => (role(a), role(b)),
-        _ => (role(a) | role(b), role(c)),
+        6 => (role(a) | role(b), role(c)),
+        _ => (0, role(a)),
     };
     Waiting { left, right, place }
 }

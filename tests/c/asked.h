@@ -1,5 +1,5 @@
-/* What the C tests share: the valve question and its faults, buffers of their exact size, and what comes back
- * against the header's numbers and document 01's. They are C and C++ alike.
+/* What the C tests share: the valve question and its faults, a question on kind 7, buffers of their exact size, and
+ * what comes back against the header's numbers and document 01's. They are C and C++ alike.
  */
 #ifndef ASKED_H
 #define ASKED_H
@@ -107,6 +107,39 @@ static inline struct question faulty(int number)
 static inline uint64_t faulty_place(int number)
 {
     return number == NOOLUKASK_RECORD;
+}
+
+/* A record of kind 7 and one of kind 4, n 2 and m 1, with the first byte of the marks: 3 for both. Goal (0,1) follows
+ * in three steps when both are marked. */
+enum { KIND_7_LEN = 16 };
+static const uint8_t kind_7_pack[KIND_7_LEN] = {
+    7, 0, 0, 0, 0, 0, 0, 0, /* everything r itself */
+    4, 0, 0, 1, 0, 0, 0, 0, /* some r 0 under 1 */
+};
+static const uint8_t both_marked[MARKS_LEN] = { 0x03 }, second_marked[MARKS_LEN] = { 0x02 };
+static const uint8_t kind_7_steps[24] = {
+    0, 0, 0, 0, 0, 0, 0, 0, 0, 0, 1, 0, 0, 0, 0, 0, 1, 0, 0, 0, 0, 0, 0, 0,
+};
+/* What the world of our no sheet is without record 0: two things, in 0 and in 1, and no link. */
+static const uint8_t kind_7_rows[32] = { 1, 0, 0, 0, 0, 0, 0, 0, 2 };
+
+static inline struct question kind_7(const uint8_t *marks)
+{
+    struct question q = { 2, 1, kind_7_pack, KIND_7_LEN, marks, MARKS_LEN, 0, 1 };
+    return q;
+}
+
+/* It with a field of record 0 that is not good: a role that is not there, b or c. */
+static inline struct question bad_kind_7(int field)
+{
+    static const uint8_t packs[3][KIND_7_LEN] = {
+        { 7, 1, 0, 0, 0, 0, 0, 0, 4, 0, 0, 1 },
+        { 7, 0, 1, 0, 0, 0, 0, 0, 4, 0, 0, 1 },
+        { 7, 0, 0, 1, 0, 0, 0, 0, 4, 0, 0, 1 },
+    };
+    struct question q = kind_7(second_marked);
+    q.pack = packs[field];
+    return q;
 }
 
 /* ---- Buffers of their exact size: valgrind sees whoever goes past either end ---- */

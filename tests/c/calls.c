@@ -96,6 +96,11 @@ static void faults(void)
     refused("noolukask_printed_set", printed_set, valve(2, 1), MARKS_LEN, NOOLUKASK_NOT_FOLLOWS, 0);
     refused("noolukask_write_sheet", sheet, valve(0, 1), 31, NOOLUKASK_NO_ROOM, 32);
     refused("noolukask_write_sheet", sheet, valve(2, 1), 0, NOOLUKASK_NO_ROOM, 120);
+    for (size_t i = 0; i < sizeof calls / sizeof calls[0]; i++)
+        for (int field = 0; field < 3; field++)
+            refused(calls[i].what, calls[i].call, bad_kind_7(field), MARKS_LEN, NOOLUKASK_RECORD, 0);
+    refused("noolukask_printed_set", printed_set, kind_7(second_marked), MARKS_LEN, NOOLUKASK_NOT_FOLLOWS, 0);
+    refused("noolukask_write_sheet", sheet, kind_7(both_marked), 23, NOOLUKASK_NO_ROOM, 24);
 }
 
 static void answers(void)
@@ -109,6 +114,21 @@ static void answers(void)
     given("noolukask_module", module, valve(0, 1), 6, all_marked, MARKS_LEN);
     given("noolukask_module", module, valve(2, 1), 1, record_1, MARKS_LEN);
     given("noolukask_printed_set", printed_set, valve(0, 1), 2, last_two, MARKS_LEN);
+}
+
+/* The question on kind 7, byte for byte, and with its record 0 not marked. */
+static void answers_on_kind_7(void)
+{
+    static const uint8_t none[MARKS_LEN] = { 0 };
+    given("noolukask_check_pack", pack_check, kind_7(both_marked), 2, NULL, 0);
+    given("noolukask_check_question", question_check, kind_7(both_marked), 2, NULL, 0);
+    given("noolukask_verdict", verdict, kind_7(both_marked), 1, NULL, 0);
+    given("noolukask_write_sheet", sheet, kind_7(both_marked), 2 * 3 + 1, kind_7_steps, 24);
+    given("noolukask_module", module, kind_7(both_marked), 2, both_marked, MARKS_LEN);
+    given("noolukask_printed_set", printed_set, kind_7(both_marked), 2, both_marked, MARKS_LEN);
+    given("noolukask_verdict", verdict, kind_7(second_marked), 0, NULL, 0);
+    given("noolukask_write_sheet", sheet, kind_7(second_marked), 2 * 4, kind_7_rows, 32);
+    given("noolukask_module", module, kind_7(second_marked), 0, none, MARKS_LEN);
 }
 
 /* Our sheet in a buffer of its size, with the value of the writer, is accepted by its check. */
@@ -129,7 +149,10 @@ int main(void)
     static const int expected[] = { 1, 2, 3, 4, 5, 7, 8 };
     faults();
     answers();
+    answers_on_kind_7();
     written(valve(0, 1), 32, 2 * 4 + 1);
     written(valve(2, 1), 120, 2 * 15);
+    written(kind_7(both_marked), 24, 2 * 3 + 1);
+    written(kind_7(second_marked), 32, 2 * 4);
     return ended(expected, sizeof expected / sizeof expected[0]);
 }

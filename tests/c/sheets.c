@@ -57,10 +57,45 @@ static void no(void)
     expect(what, checked(call, valve(2, 1), sheet, 120), NOOLUKASK_ROW, 16, 12);
 }
 
+/* Kind 7: steps that use X alone, and a world that lacks a self-link. */
+static void itself(void)
+{
+    uint8_t sheet[24], world[32];
+    memcpy(sheet, kind_7_steps, 24);
+    const char *what = "noolukask_check_yes";
+    check *call = noolukask_check_yes;
+    expect(what, checked(call, kind_7(both_marked), sheet, 24), 0, 16, 0);
+    expect(what, checked(call, kind_7(second_marked), sheet, 24), NOOLUKASK_STEP, 16, 0);
+    expect(what, checked(call, kind_7(both_marked), sheet + 8, 16), NOOLUKASK_STEP, 16, 1);
+    for (int number = 3; number <= 4; number++) {
+        sheet[8 + number] = 1;
+        expect(what, checked(call, kind_7(both_marked), sheet, 24), NOOLUKASK_STEP, 16, 1);
+        sheet[8 + number] = 0;
+    }
+    for (int field = 0; field < 3; field++)
+        expect(what, checked(call, bad_kind_7(field), sheet, 24), NOOLUKASK_RECORD, 16, 0);
+    memcpy(world, kind_7_rows, 32);
+    what = "noolukask_check_no";
+    call = noolukask_check_no;
+    expect(what, checked(call, kind_7(second_marked), world, 32), 0, 16, 0);
+    expect(what, checked(call, kind_7(both_marked), world, 32), NOOLUKASK_BROKEN, 16, 0);
+    /* Thing 0 linked to itself breaks record 1; thing 1 is not linked to itself. */
+    world[16] = 1;
+    expect(what, checked(call, kind_7(both_marked), world, 32), NOOLUKASK_BROKEN, 16, 0);
+    world[24] = 2;
+    expect(what, checked(call, kind_7(both_marked), world, 32), NOOLUKASK_BROKEN, 16, 1);
+    /* With thing 0 in 1 as well nothing is broken and nothing refuted. */
+    world[0] = 3;
+    expect(what, checked(call, kind_7(both_marked), world, 32), NOOLUKASK_NOT_SHOWN, 16, 0);
+    for (int field = 0; field < 3; field++)
+        expect(what, checked(call, bad_kind_7(field), world, 32), NOOLUKASK_RECORD, 16, 0);
+}
+
 int main(void)
 {
     static const int expected[] = { 1, 2, 3, 4, 5, 9, 10, 11, 12, 13 };
     yes();
     no();
+    itself();
     return ended(expected, sizeof expected / sizeof expected[0]);
 }

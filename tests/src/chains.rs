@@ -12,7 +12,19 @@ pub fn small_question(rng: &mut Rng, planted: usize) -> Question {
         return question(rng);
     }
     let (n, m, count) = (rng.between(1, 6), rng.between(0, 3), rng.below(13));
-    let mut q = packs::random_question(rng, n, m, count);
+    let q = packs::random_question(rng, n, m, count);
+    with_goal(rng, q)
+}
+
+/// Any small question in which a fifth of the records are of kind 7.
+pub fn fifth_of_kind_7(rng: &mut Rng) -> Question {
+    let (n, m, count) = (rng.between(2, 6), rng.between(1, 3), rng.between(4, 12));
+    let q = packs::fifth_of_kind_7(rng, n, m, count);
+    with_goal(rng, q)
+}
+
+/// With a goal that is drawn by what the passes add.
+fn with_goal(rng: &mut Rng, mut q: Question) -> Question {
     passes(&q).draw_goal(rng, &mut q);
     q
 }
@@ -36,10 +48,7 @@ pub fn question(rng: &mut Rng) -> Question {
     let share = rng.pick(&[100, 100, 100, 90]);
     let mut q = packs::stated(rng, n, m, &records, share);
     (q.a, q.b) = (a, b);
-    if rng.chance(30) {
-        passes(&q).draw_goal(rng, &mut q);
-    }
-    q
+    if rng.chance(30) { with_goal(rng, q) } else { q }
 }
 
 /// Records that put a under b, each with the conclusions of those before it: from a by one to three steps to
@@ -72,25 +81,33 @@ fn step(rng: &mut Rng, n: usize, m: usize, held: &[u8], next: u8, records: &mut 
     }
 }
 
-/// Kind 3, then kinds 5 and 6 none to two times, then kind 4.
+/// Kind 3 or 7, then none to two times kind 5 or, after kind 3 or 7, kind 6; then kind 4.
 fn by_links(rng: &mut Rng, n: usize, m: usize, from: u8, next: u8, records: &mut Vec<[u8; 4]>) {
-    let concept = |rng: &mut Rng| rng.below(n) as u8;
     let role = |rng: &mut Rng| rng.below(m) as u8;
-    let (mut by, mut end) = (role(rng), concept(rng));
-    records.push([3, from, by, end]);
+    let mut by = role(rng);
+    let mut end = link(rng, n, from, by, records);
     for _ in 0..rng.pick(&[0, 1, 1, 2]) {
         let (first, second) = (by, role(rng));
         by = role(rng);
         if by != first && rng.chance(60) {
             records.push([5, first, by, 0]);
         } else {
-            let middle = end;
-            end = concept(rng);
-            records.push([3, middle, second, end]);
+            end = link(rng, n, end, second, records);
             records.push([6, first, second, by]);
         }
     }
     records.push([4, by, end, next]);
+}
+
+/// Links what is in a concept: by kind 3 to another one, or by kind 7 to itself. The concept that it is linked to.
+fn link(rng: &mut Rng, n: usize, from: u8, by: u8, records: &mut Vec<[u8; 4]>) -> u8 {
+    if rng.chance(20) {
+        records.push([7, by, 0, 0]);
+        return from;
+    }
+    let end = rng.below(n) as u8;
+    records.push([3, from, by, end]);
+    end
 }
 
 #[cfg(test)]
@@ -101,7 +118,7 @@ mod tests {
     #[test]
     fn what_is_planted_follows() {
         let mut rng = Rng::new(81);
-        let mut kinds = [0; 7];
+        let mut kinds = [0; 8];
         for _ in 0..2000 {
             let (n, m) = (rng.between(4, 7), rng.between(1, 3));
             let (a, b) = packs::two_concepts(&mut rng, n);
@@ -120,6 +137,7 @@ mod tests {
             let q = question(&mut rng);
             let count = check_question(&q).expect("a good question");
             assert!((8..=12).contains(&count) && q.a != q.b);
+            assert!(check_question(&fifth_of_kind_7(&mut rng)).is_ok());
         }
     }
 }

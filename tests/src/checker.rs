@@ -1,4 +1,5 @@
-//! The clear checker of yes and no sheets, written from document 01, "Facts and rules" and "Sheets".
+//! The clear checker of yes and no sheets, written from document 01, "Facts and rules" and "Sheets", and from
+//! document 02 for kind 7.
 
 use crate::rules::*;
 
@@ -34,17 +35,18 @@ impl Facts {
     }
 }
 
-/// A record's rule at x, y, z: its premises (a single one stands twice) and its conclusion.
-fn rule(record: Record, x: u8, y: u8, z: u8) -> ([Fact; 2], Fact) {
+/// A record's rule at x, y, z: its premises and its conclusion.
+fn rule(record: Record, x: u8, y: u8, z: u8) -> (Vec<Fact>, Fact) {
     use Fact::{In, Link};
     let Record { kind, a, b, c } = record;
     match kind {
-        1 => ([In(x, a), In(x, a)], In(x, b)),
-        2 => ([In(x, a), In(x, b)], In(x, c)),
-        3 => ([In(x, a), In(x, a)], Link(x, b, c)),
-        4 => ([Link(x, a, y), In(y, b)], In(x, c)),
-        5 => ([Link(x, a, y), Link(x, a, y)], Link(x, b, y)),
-        6 => ([Link(x, a, y), Link(y, b, z)], Link(x, c, z)),
+        1 => (vec![In(x, a)], In(x, b)),
+        2 => (vec![In(x, a), In(x, b)], In(x, c)),
+        3 => (vec![In(x, a)], Link(x, b, c)),
+        4 => (vec![Link(x, a, y), In(y, b)], In(x, c)),
+        5 => (vec![Link(x, a, y)], Link(x, b, y)),
+        6 => (vec![Link(x, a, y), Link(y, b, z)], Link(x, c, z)),
+        7 => (vec![], Link(x, a, x)),
         _ => unreachable!("the pack was checked"),
     }
 }
@@ -52,7 +54,7 @@ fn rule(record: Record, x: u8, y: u8, z: u8) -> ([Fact; 2], Fact) {
 /// How many of X, Y, Z a kind uses.
 pub fn used(kind: u8) -> usize {
     match kind {
-        1..=3 => 1,
+        1..=3 | 7 => 1,
         4 | 5 => 2,
         _ => 3,
     }
@@ -119,6 +121,7 @@ impl World {
                     things().all(|z| !self.linked(y, b, z) || self.linked(x, c, z))
                 })
             }),
+            7 => things().all(|x| self.linked(x, a, x)),
             _ => unreachable!("the pack was checked"),
         }
     }
@@ -220,5 +223,23 @@ mod tests {
         // 0 by role 0 to 1, 1 by role 1 to 0: the chain asks 0 by role 2 to 0.
         assert!(broken([6, 0, 1, 2], &[0, 0, 2, 0, 0, 1, 0, 1]));
         assert!(!broken([6, 0, 1, 2], &[0, 0, 2, 0, 0, 1, 1, 0]));
+        // Every thing by role 1 to itself, whatever else it is linked to.
+        assert!(broken([7, 1, 0, 0], &[1, 0, 3, 3, 1, 0, 3, 3]));
+        assert!(broken([7, 1, 0, 0], &[1, 0, 3, 3, 2, 3, 3, 3]));
+        assert!(!broken([7, 1, 0, 0], &[1, 0, 0, 0, 1, 3, 0, 0]));
+    }
+
+    #[test]
+    fn a_step_of_kind_7_uses_x_alone() {
+        let q = packs::kind_7();
+        assert_eq!(check_yes(&q, &packs::kind_7_yes_sheet()), Ok(()));
+        for step in [0, 1] {
+            let x = step as u16;
+            for other in [[0, x, 1, 0], [0, x, 0, 1], [0, x, 1, 1], [0, 2, 0, 0]] {
+                let mut list = packs::KIND_7_STEPS;
+                list[step] = other;
+                assert_eq!(check_yes(&q, &steps(&list)), Err(step_at(step)));
+            }
+        }
     }
 }

@@ -50,7 +50,7 @@ fn some_record(rng: &mut Rng, q: &mut Question) {
     let place = rng.below(count);
     let field = rng.below(4);
     for _ in 0..8 {
-        q.pack[8 * place + field] = rng.pick(&[0, 7, q.n as u8, q.m as u8, 255]);
+        q.pack[8 * place + field] = rng.pick(&[0, 7, 8, q.n as u8, q.m as u8, 255]);
         if !record_good(q.n, q.m, record(&q.pack, place)) {
             return;
         }
@@ -94,13 +94,43 @@ pub fn several_at_once() -> Vec<(Question, Refused)> {
     // Each later fault alone beside the sizes, and the lengths beside the goal.
     list.push((Question { n: 0, ..packs::valve(0, 1) }, SIZES));
     list.push((Question { m: 9, marks: vec![], ..packs::valve(0, 9) }, SIZES));
-    list.push((Question { pack: vec![7; 8200], marks: vec![], ..packs::valve(9, 9) }, PACK));
+    list.push((Question { pack: vec![9; 8200], marks: vec![], ..packs::valve(9, 9) }, PACK));
     list.push((Question { marks: vec![0; 127], ..packs::valve(9, 9) }, MARKS));
     // A bad record counts though it is not marked, and its lowest place though the goal is free.
     let mut q = Question { marks: packs::marks([0]), ..packs::valve(3, 3) };
     q.pack[32] = 0;
-    q.pack[40] = 7;
+    q.pack[40] = 8;
     list.push((q, record_at(4)));
+    // Kind 7 with b not zero, and then before it with a role that is not there.
+    let mut q = packs::valve(9, 9);
+    q.pack[40..44].copy_from_slice(&[7, 0, 1, 0]);
+    list.push((q.clone(), record_at(5)));
+    q.pack[32..36].copy_from_slice(&[7, 2, 0, 0]);
+    list.push((q, record_at(4)));
+    list
+}
+
+/// Nine records of kind 7, at n 5 and m 2, of which the first, a middle one or the last has a bad field: a role at
+/// m or above, b not zero, c not zero. Also none of them, which is good, and two at once.
+pub fn fields_of_kind_7() -> Vec<(Question, Result<u64, Refused>)> {
+    let with = |bad: &[(usize, [u8; 4])]| {
+        let mut records = [[7, 1, 0, 0]; 9];
+        bad.iter().for_each(|&(place, record)| records[place] = record);
+        packs::question(5, 2, &records, 0, 1)
+    };
+    let [role, far, highest] = [[7, 2, 0, 0], [7, 3, 0, 0], [7, 255, 0, 0]];
+    let [b, high_b, c, high_c] = [[7, 0, 1, 0], [7, 1, 255, 0], [7, 0, 0, 1], [7, 1, 0, 255]];
+    let mut list = vec![(with(&[]), Ok(9))];
+    for place in [0, 4, 8] {
+        for record in [role, far, highest, b, high_b, c, high_c] {
+            list.push((with(&[(place, record)]), Err(record_at(place))));
+            // Marked or not.
+            let marks = packs::marks((0..9).filter(|&other| other != place));
+            list.push((Question { marks, ..with(&[(place, record)]) }, Err(record_at(place))));
+        }
+    }
+    list.push((with(&[(8, b), (4, c)]), Err(record_at(4))));
+    list.push((with(&[(4, role), (0, c)]), Err(record_at(0))));
     list
 }
 
@@ -148,6 +178,9 @@ mod tests {
     fn several_faults_give_the_lowest_number() {
         for (q, expected) in several_at_once() {
             assert_eq!(check_question(&q), Err(expected));
+        }
+        for (q, expected) in fields_of_kind_7() {
+            assert_eq!(check_question(&q), expected);
         }
     }
 

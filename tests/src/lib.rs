@@ -1,4 +1,4 @@
-//! The independent side of the tests, written from document 01 alone:
+//! The independent side of the tests, written from documents 01 and 02 (request 2/12) alone:
 //! rules, a clear checker of sheets, a reasoner, modules and printed sets, makers of packs and sheets, and
 //! the calls under test.
 

@@ -70,18 +70,35 @@ pub fn valve_no_sheet() -> Vec<u8> {
     rows(&[concepts, site, part_of].concat())
 }
 
-/// 1,024 records of every kind, good for n = 64 and m = 8, of which only the last is marked.
+/// The further case of kind 7: everything is linked to itself, and some r 0 is under 1.
+pub const KIND_7: [[u8; 4]; 2] = [[7, 0, 0, 0], [4, 0, 0, 1]];
+
+/// It with goal (0,1), both records marked.
+pub fn kind_7() -> Question {
+    question(2, 1, &KIND_7, 0, 1)
+}
+
+/// The steps of its yes sheet.
+pub const KIND_7_STEPS: [[u16; 4]; 3] = [[0, 0, 0, 0], [0, 1, 0, 0], [1, 0, 0, 0]];
+
+pub fn kind_7_yes_sheet() -> Vec<u8> {
+    steps(&KIND_7_STEPS)
+}
+
+/// 1,024 records of every kind, good for n = 64 and m = 8, of which only the last is marked. 61 and 7 have no common
+/// factor: concepts come with every kind.
 pub fn longest() -> Question {
     let records: Vec<[u8; 4]> = (0..1024u32)
         .map(|i| {
-            let (concept, role) = ((i % 63 + 1) as u8, (i % 8) as u8);
-            match i % 6 {
+            let (concept, role) = ((i % 61 + 1) as u8, (i % 8) as u8);
+            match i % 7 {
                 0 => [1, concept, 63, 0],
                 1 => [2, concept, 63, concept],
                 2 => [3, concept, role, 63],
                 3 => [4, role, concept, 63],
                 4 => [5, role, 7, 0],
-                _ => [6, role, 7, role],
+                5 => [6, role, 7, role],
+                _ => [7, role, 0, 0],
             }
         })
         .collect();
@@ -91,19 +108,25 @@ pub fn longest() -> Question {
     q
 }
 
-/// A record that keeps its rules; names come often from a few, so that rules meet.
+/// A record of any kind that keeps its rules.
 pub fn random_record(rng: &mut Rng, n: usize, m: usize) -> [u8; 4] {
+    let kind = if m == 0 { rng.between(1, 2) } else { rng.between(1, 7) };
+    record_of_kind(rng, kind, n, m)
+}
+
+/// A record of this kind; names come often from a few, so that rules meet.
+fn record_of_kind(rng: &mut Rng, kind: usize, n: usize, m: usize) -> [u8; 4] {
     let few = if rng.chance(70) { 5 } else { 64 };
     let concept = |rng: &mut Rng| rng.below(n.min(few)) as u8;
     let role = |rng: &mut Rng| rng.below(m.min(few)) as u8;
-    let kind = if m == 0 { rng.between(1, 2) } else { rng.between(1, 6) };
     match kind {
         1 => [1, concept(rng), concept(rng), 0],
         2 => [2, concept(rng), concept(rng), concept(rng)],
         3 => [3, concept(rng), role(rng), concept(rng)],
         4 => [4, role(rng), concept(rng), concept(rng)],
         5 => [5, role(rng), role(rng), 0],
-        _ => [6, role(rng), role(rng), role(rng)],
+        6 => [6, role(rng), role(rng), role(rng)],
+        _ => [7, role(rng), 0, 0],
     }
 }
 
@@ -122,11 +145,27 @@ pub fn stated(rng: &mut Rng, n: usize, m: usize, records: &[[u8; 4]], share: usi
     Question { n: n as u64, m: m as u64, pack: bytes, marks: marks(places), a, b }
 }
 
-/// A good question of these sizes, most records marked.
+/// A good question of these sizes, most records marked. Of five packs with roles one has a fifth of kind 7.
 pub fn random_question(rng: &mut Rng, n: usize, m: usize, count: usize) -> Question {
+    if m > 0 && rng.chance(20) {
+        return fifth_of_kind_7(rng, n, m, count);
+    }
     let records: Vec<[u8; 4]> = (0..count).map(|_| random_record(rng, n, m)).collect();
+    mostly_marked(rng, n, m, &records)
+}
+
+/// A good question in which a fifth of the records, rounded up, are of kind 7; m is 1 or more.
+pub fn fifth_of_kind_7(rng: &mut Rng, n: usize, m: usize, count: usize) -> Question {
+    let mut kinds = vec![7; count.div_ceil(5)];
+    kinds.resize_with(count, || rng.between(1, 6));
+    rng.shuffle(&mut kinds);
+    let records: Vec<[u8; 4]> = kinds.into_iter().map(|kind| record_of_kind(rng, kind, n, m)).collect();
+    mostly_marked(rng, n, m, &records)
+}
+
+fn mostly_marked(rng: &mut Rng, n: usize, m: usize, records: &[[u8; 4]]) -> Question {
     let share = rng.pick(&[100, 100, 90, 50]);
-    stated(rng, n, m, &records, share)
+    stated(rng, n, m, records, share)
 }
 
 /// A record over all 64 concepts and 8 roles, its kind drawn from these.
@@ -140,7 +179,8 @@ fn wide_record(rng: &mut Rng, kinds: &[u8]) -> [u8; 4] {
         3 => [3, a, b % 8, c],
         4 => [4, a % 8, b, c],
         5 => [5, a % 8, b % 8, 0],
-        _ => [6, a % 8, b % 8, c % 8],
+        6 => [6, a % 8, b % 8, c % 8],
+        _ => [7, a % 8, 0, 0],
     }
 }
 
@@ -166,19 +206,23 @@ pub enum Shape {
     Full,
     /// Under 120 records with names from a few, as in small packs.
     Few,
+    /// Under 170 records, a fifth of them of kind 7.
+    SelfLinked,
 }
 
-pub const SHAPES: [Shape; 5] = [Shape::Sparse, Shape::Dense, Shape::Unlinked, Shape::Full, Shape::Few];
+pub const SHAPES: [Shape; 6] =
+    [Shape::Sparse, Shape::Dense, Shape::Unlinked, Shape::Full, Shape::Few, Shape::SelfLinked];
 
 impl Shape {
-    /// The shape of one pack in a run: of twenty packs most are sparse.
+    /// The shape of one pack in a run: of 24 packs most are sparse.
     pub fn at(turn: u64) -> Shape {
-        match turn % 20 {
+        match turn % 24 {
             0..=12 => Shape::Sparse,
             13 => Shape::Dense,
             14 | 15 => Shape::Unlinked,
             16 => Shape::Full,
-            _ => Shape::Few,
+            17..=19 => Shape::Few,
+            _ => Shape::SelfLinked,
         }
     }
 }
@@ -192,11 +236,11 @@ pub fn large_question(rng: &mut Rng, shape: Shape) -> Question {
     match shape {
         Shape::Sparse => {
             let count = rng.below(170);
-            more(rng, count, &[1, 1, 2, 3, 3, 4, 5, 6]);
+            more(rng, count, &[1, 1, 2, 3, 3, 4, 5, 6, 7]);
         }
         Shape::Dense => {
             more(rng, 1018, &[1, 2, 3, 3, 3, 4]);
-            more(rng, 6, &[5, 6]);
+            more(rng, 6, &[5, 6, 7]);
         }
         Shape::Unlinked => {
             let count = rng.between(100, 1024);
@@ -204,12 +248,18 @@ pub fn large_question(rng: &mut Rng, shape: Shape) -> Question {
         }
         Shape::Full => {
             let count = rng.below(12);
-            more(rng, count, &[1, 2, 4, 6]);
+            more(rng, count, &[1, 2, 4, 6, 7]);
             records.extend(filling(rng));
         }
         Shape::Few => {
             let count = rng.below(120);
             return random_question(rng, 64, 8, count);
+        }
+        Shape::SelfLinked => {
+            let count = rng.below(170);
+            let fifth = count.div_ceil(5);
+            more(rng, fifth, &[7]);
+            more(rng, count - fifth, &[1, 1, 2, 3, 3, 4, 5, 6]);
         }
     }
     rng.shuffle(&mut records);
@@ -223,15 +273,39 @@ pub fn large_question(rng: &mut Rng, shape: Shape) -> Question {
 #[cfg(test)]
 mod tests {
     use super::*;
-    use crate::rules::{check_pack, check_question};
+    use crate::rules::{check_pack, check_question, record};
+
+    /// How many records of kinds 1 to 7 there are.
+    fn kinds(q: &Question) -> [usize; 7] {
+        let mut kinds = [0; 7];
+        (0..q.pack.len() / 8).for_each(|place| kinds[usize::from(record(&q.pack, place).kind) - 1] += 1);
+        kinds
+    }
 
     #[test]
     fn random_questions_are_good() {
         let mut rng = Rng::new(3);
+        let mut seen = [0; 7];
         for _ in 0..2000 {
             let (n, m, count) = (rng.between(1, 64), rng.between(0, 8), rng.below(60));
             let q = random_question(&mut rng, n, m, count);
             assert_eq!(check_question(&q), Ok(count as u64));
+            (0..7).for_each(|i| seen[i] += kinds(&q)[i]);
+        }
+        assert!(seen.iter().all(|&times| times > 5000), "{seen:?}");
+    }
+
+    #[test]
+    fn a_fifth_is_of_kind_7() {
+        let mut rng = Rng::new(4);
+        for count in 0..100 {
+            let (n, m) = (rng.between(1, 64), rng.between(1, 8));
+            let small = fifth_of_kind_7(&mut rng, n, m, count);
+            assert_eq!(check_question(&small), Ok(count as u64));
+            for q in [small, large_question(&mut rng, Shape::SelfLinked)] {
+                let all = check_question(&q).expect("a good question") as usize;
+                assert_eq!(kinds(&q)[6], all.div_ceil(5));
+            }
         }
     }
 
@@ -240,5 +314,6 @@ mod tests {
         let q = longest();
         assert_eq!(check_pack(64, 8, &q.pack), Ok(1024));
         assert_eq!(check_question(&q), Ok(1024));
+        assert!(kinds(&q).iter().all(|&times| times > 140), "{:?}", kinds(&q));
     }
 }

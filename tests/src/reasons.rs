@@ -1,5 +1,5 @@
-//! The independent module and printed set, written from document 01, "Meaning", and document 000,
-//! definition 3. A printed set is found by deletion or among all subsets, and a given one is judged.
+//! The independent module and printed set, written from document 01, "Meaning", document 000, definition 3, and
+//! document 02 for kind 7. A printed set is found by deletion or among all subsets, and a given one is judged.
 
 use crate::packs::{marks, places};
 use crate::reasoner::{closure, passes};
@@ -24,6 +24,7 @@ fn sides(line: Record) -> (Vec<Name>, Vec<Name>) {
         4 => (vec![Role(a), Concept(b)], vec![Concept(c)]),
         5 => (vec![Role(a)], vec![Role(b)]),
         6 => (vec![Role(a), Role(b)], vec![Role(c)]),
+        7 => (vec![], vec![Role(a)]),
         _ => unreachable!("the pack was checked"),
     }
 }
@@ -125,7 +126,7 @@ pub fn set_taken(q: &Question, out: usize) -> Result<(), Refused> {
 mod tests {
     use super::*;
     use crate::chains;
-    use crate::packs::{question, random_question, valve};
+    use crate::packs::{kind_7, question, random_question, valve};
     use crate::rng::Rng;
     use crate::rules::GOAL;
 
@@ -183,6 +184,15 @@ mod tests {
         let q = question(2, 0, &[[1, 0, 1, 0], [1, 0, 1, 0]], 0, 1);
         assert_eq!(printed(&q), Some(vec![1]));
         assert_eq!(printed_of_all(&q), Some(vec![1]));
+    }
+
+    #[test]
+    fn kind_7_is_in_every_module() {
+        let q = kind_7();
+        assert_eq!((module(&q), printed(&q)), (vec![0, 1], Some(vec![0, 1])));
+        // From 1 its role is reached, and record 1 asks for 0 besides.
+        assert_eq!(module(&Question { a: 1, ..q.clone() }), [0]);
+        assert_eq!((module(&only(&q, &[1])), printed(&only(&q, &[1]))), (vec![], None));
     }
 
     #[test]

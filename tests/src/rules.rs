@@ -1,4 +1,4 @@
-//! Document 01's rules of packs, marks and goals, and its table of what comes back.
+//! Document 01's rules of packs, marks and goals, with document 02's kind 7, and the table of what comes back.
 
 /// What is handed to a call besides a sheet.
 #[derive(Clone)]
@@ -119,6 +119,7 @@ pub fn record_good(n: u64, m: u64, record: Record) -> bool {
         4 => role(a) && concept(b) && concept(c),
         5 => role(a) && role(b) && c == 0,
         6 => role(a) && role(b) && role(c),
+        7 => role(a) && b == 0 && c == 0,
         _ => false,
     }
 }
@@ -180,13 +181,20 @@ mod tests {
         assert_eq!(check_question(&q), Err(GOAL));
         q.marks[0] = 0x40;
         assert_eq!(check_question(&q), Err(MARKS));
-        q.pack[8] = 7;
+        q.pack[8] = 8;
         q.pack[24] = 0;
         assert_eq!(check_question(&q), Err(record_at(1)));
         q.pack.pop();
         assert_eq!(check_question(&q), Err(PACK));
         q.m = 9;
         assert_eq!(check_question(&q), Err(SIZES));
+    }
+
+    #[test]
+    fn kind_7_has_a_role_and_zeros() {
+        let good = |[kind, a, b, c]: [u8; 4]| record_good(5, 2, Record { kind, a, b, c });
+        assert!(good([7, 0, 0, 0]) && good([7, 1, 0, 0]));
+        assert!(![[7, 2, 0, 0], [7, 255, 0, 0], [7, 0, 1, 0], [7, 0, 0, 1], [8, 0, 0, 0]].into_iter().any(good));
     }
 
     #[test]

@@ -1,10 +1,10 @@
 //! The bench program, run as a process with the pack and the question record on standard input. What it prints
 //! is compared with document 01's own lines and with those that the independent side gives.
 
-use noolukask_tests::packs::{self, marks, pack, Shape, VALVE};
+use noolukask_tests::packs::{self, marks, pack, Shape, KIND_7, VALVE};
 use noolukask_tests::rng::Rng;
 use noolukask_tests::rules::{check_question, Question, Refused, PACK, SIZES};
-use noolukask_tests::{chains, reasoner, reasons, runs};
+use noolukask_tests::{chains, damage, reasoner, reasons, runs};
 use std::io::Write;
 use std::process::{Command, Stdio};
 use std::time::Duration;
@@ -127,6 +127,28 @@ fn document_01s_cases_with_everything_marked() {
 }
 
 #[test]
+fn kind_7() {
+    let of = |sizes: [u8; 4], records: &[[u8; 4]]| bench(&input(&pack(records), sizes));
+    let [itself, some] = KIND_7;
+    assert_eq!(of([2, 1, 0, 1], &[itself, some]), "follows 3\nmodule 2: 0 1\nset 2: 0 1\n");
+    assert_eq!(of([2, 1, 0, 1], &[some, itself]), "follows 3\nmodule 2: 0 1\nset 2: 0 1\n");
+    // Without the record of kind 7, and with it alone.
+    assert_eq!(of([2, 1, 0, 1], &[some]), "not 4\nmodule 0:\n");
+    assert_eq!(of([2, 1, 0, 1], &[itself]), "not 4\nmodule 1: 0\n");
+    // It is in the module of every concept, and in the set of none that is free.
+    assert_eq!(of([2, 1, 1, 0], &[itself, some]), "not 4\nmodule 1: 0\n");
+    assert_eq!(of([2, 1, 1, 1], &[itself, some]), "follows 0\nmodule 1: 0\nset 0:\n");
+    // Of two alike records the second one; roles 0 and 1 are two.
+    assert_eq!(of([2, 2, 0, 1], &[itself, itself, some]), "follows 3\nmodule 3: 0 1 2\nset 2: 1 2\n");
+    assert_eq!(of([2, 2, 0, 1], &[[7, 1, 0, 0], some]), "not 6\nmodule 1: 0\n");
+    for (q, expected) in damage::fields_of_kind_7() {
+        if let Err(Refused { place, .. }) = expected {
+            assert_eq!(bench_question(&q), format!("refused 3 {place}\n"));
+        }
+    }
+}
+
+#[test]
 fn no_question_record() {
     let good = input(&pack(&VALVE), [5, 2, 0, 1]);
     for len in 0..8 {
@@ -186,7 +208,7 @@ fn lengths() {
 fn records_and_goals() {
     for place in [0, 1, 5] {
         let mut bad = input(&pack(&VALVE), [5, 2, 0, 1]);
-        bad[8 * place] = 7;
+        bad[8 * place] = 8;
         assert_eq!(bench(&bad), format!("refused 3 {place}\n"));
         // The lowest place, and records before the goal.
         bad[40] = 0;
@@ -220,15 +242,16 @@ fn long_lines() {
 fn random_questions() {
     let mut rng = Rng::new(71);
     let mut follow = 0;
-    for i in 0..60 {
-        let mut q = match i % 6 {
+    for i in 0..70 {
+        let mut q = match i % 7 {
             0 => packs::large_question(&mut rng, Shape::Few),
+            1 => chains::fifth_of_kind_7(&mut rng),
             _ => chains::small_question(&mut rng, 50),
         };
         q.marks = marks(0..q.pack.len() / 8);
         follow += usize::from(bench_question(&q).starts_with("follows"));
     }
-    println!("counts: bench on 60 random packs: {follow} goals follow");
+    println!("counts: bench on 70 random packs: {follow} goals follow");
     assert!((10..50).contains(&follow));
 }
 

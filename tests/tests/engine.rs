@@ -2,18 +2,21 @@
 //! byte of every buffer, and what both sheet checks say to the sheets.
 
 use noolukask_tests::calls::filled;
-use noolukask_tests::packs::{self, marks, question, rows, steps, Shape, VALVE};
+use noolukask_tests::packs::{self, marks, places, question, rows, steps, Shape, KIND_7_STEPS, VALVE};
 use noolukask_tests::reasoner::{self, Answer, Passes};
 use noolukask_tests::rng::Rng;
 use noolukask_tests::rules::{
-    self, desk_code, no_room, sheet_answer, show, Fact, Question, Refused, ACCEPTED, GOAL, MARKS, NOT_SHOWN, PACK,
-    SIZES,
+    self, desk_code, no_room, record, sheet_answer, show, Fact, Question, Refused, ACCEPTED, GOAL, MARKS, NOT_SHOWN,
+    PACK, SIZES,
 };
 use noolukask_tests::threads::{self, on_two_threads};
 use noolukask_tests::{calls, chains, checker, damage, runs};
 
 const SMALL_PACKS: u64 = 100_000;
-const LARGE_PACKS: u64 = 2_000;
+/// Further ones in which a fifth of the records are of kind 7.
+const SELF_LINKED_PACKS: u64 = 20_000;
+/// 400 of them with a fifth of kind 7.
+const LARGE_PACKS: u64 = 2_400;
 
 /// The verdict's number.
 fn verdict(follows: bool) -> u64 {
@@ -119,6 +122,8 @@ struct Counts {
     follow: u64,
     not: u64,
     by_meaning: [u64; 2],
+    /// Goals that follow, and do not with the records of kind 7 struck.
+    by_kind_7: u64,
     refused: [u64; 6],
     /// The most of each in one pack or sheet.
     passes: usize,
@@ -141,9 +146,9 @@ impl Counts {
     fn print(&self, what: &str) {
         println!(
             "counts: engine on {} {what}: {} goals are free, {} follow, {} do not (by the meaning too: {}, {}); \
-             most passes {}, facts {}, steps {}; refused with 1 to 5: {:?}",
+             {} follow by kind 7 alone; most passes {}, facts {}, steps {}; refused with 1 to 5: {:?}",
             self.packs, self.free, self.follow, self.not, self.by_meaning[1], self.by_meaning[0],
-            self.passes, self.facts, self.steps, &self.refused[1..],
+            self.by_kind_7, self.passes, self.facts, self.steps, &self.refused[1..],
         );
     }
 }
@@ -154,6 +159,7 @@ impl threads::Counts for Counts {
         self.free += other.free;
         self.follow += other.follow;
         self.not += other.not;
+        self.by_kind_7 += other.by_kind_7;
         (0..2).for_each(|i| self.by_meaning[i] += other.by_meaning[i]);
         (0..6).for_each(|i| self.refused[i] += other.refused[i]);
         self.passes = self.passes.max(other.passes);
@@ -174,46 +180,80 @@ fn with_faults(rng: &mut Rng, q: &Question, counts: &mut Counts) {
     }
 }
 
+/// A goal that follows is asked again with the records of kind 7 struck.
+fn without_kind_7(q: &Question, ours: &Answer, counts: &mut Counts) {
+    let others = places(&q.marks).into_iter().filter(|&place| record(&q.pack, place).kind != 7);
+    let struck = Question { marks: marks(others), ..q.clone() };
+    if ours.follows && struck.marks != q.marks {
+        let still = reasoner::passes(&struck).answer(q.a, q.b).follows;
+        assert_eq!(calls::verdict(&struck), verdict(still), "{}", show(&struck));
+        counts.by_kind_7 += u64::from(!still);
+    }
+}
+
+/// One small pack: by passes, as the closure and by the meaning; sometimes with faults and for every goal.
+fn small_pack(rng: &mut Rng, mut q: Question, counts: &mut Counts) {
+    let run = reasoner::passes(&q);
+    let ours = settle(&q, &run, rng.below(40), rng.below(1000));
+    counts.answered(&run, &ours);
+    without_kind_7(&q, &ours, counts);
+    let closed = reasoner::closure(&q);
+    assert!(run.facts() == closed, "{}", show(&q));
+    if let Some(follows) = reasoner::meaning(&q) {
+        assert_eq!(ours.follows, follows, "by the meaning\n{}", show(&q));
+        counts.by_meaning[usize::from(follows)] += 1;
+    }
+    if counts.packs % 40 == 0 {
+        with_faults(rng, &q, counts);
+        // Every goal of the pack, not only the one drawn.
+        for (a, b) in (0..q.n).flat_map(|a| (0..q.n).map(move |b| (a, b))) {
+            (q.a, q.b) = (a, b);
+            let ours = settle(&q, &run, 0, 0);
+            assert_eq!(ours.follows, closed.contains(&Fact::In(a as u8, b as u8)));
+            counts.answered(&run, &ours);
+        }
+    }
+    counts.packs += 1;
+}
+
 #[test]
 fn a_hundred_thousand_small_packs() {
     let counts = on_two_threads(41, Counts::default, |counts| counts.packs == SMALL_PACKS / 2, |rng, counts| {
-        let mut q = chains::small_question(rng, 40);
-        let run = reasoner::passes(&q);
-        let ours = settle(&q, &run, rng.below(40), rng.below(1000));
-        counts.answered(&run, &ours);
-        let closed = reasoner::closure(&q);
-        assert!(run.facts() == closed, "{}", show(&q));
-        if let Some(follows) = reasoner::meaning(&q) {
-            assert_eq!(ours.follows, follows, "by the meaning\n{}", show(&q));
-            counts.by_meaning[usize::from(follows)] += 1;
-        }
-        if counts.packs % 40 == 0 {
-            with_faults(rng, &q, counts);
-            // Every goal of the pack, not only the one drawn.
-            for (a, b) in (0..q.n).flat_map(|a| (0..q.n).map(move |b| (a, b))) {
-                (q.a, q.b) = (a, b);
-                let ours = settle(&q, &run, 0, 0);
-                assert_eq!(ours.follows, closed.contains(&Fact::In(a as u8, b as u8)));
-                counts.answered(&run, &ours);
-            }
-        }
-        counts.packs += 1;
+        let q = chains::small_question(rng, 40);
+        small_pack(rng, q, counts);
     });
     counts.print("small packs");
     assert_eq!(counts.packs, SMALL_PACKS);
     assert!(counts.follow > 40_000 && counts.not > 40_000);
     assert!(counts.by_meaning.iter().all(|&times| times > 10_000));
+    assert!(counts.by_kind_7 > 5_000);
     assert!(counts.refused[1..].iter().all(|&times| times > 500));
 }
 
 #[test]
-fn two_thousand_large_packs() {
+fn twenty_thousand_small_packs_with_a_fifth_of_kind_7() {
+    let done = |counts: &Counts| counts.packs == SELF_LINKED_PACKS / 2;
+    let counts = on_two_threads(47, Counts::default, done, |rng, counts| {
+        let q = chains::fifth_of_kind_7(rng);
+        small_pack(rng, q, counts);
+    });
+    counts.print("small packs with a fifth of kind 7");
+    assert_eq!(counts.packs, SELF_LINKED_PACKS);
+    assert!(counts.follow > 5_000 && counts.not > 5_000);
+    assert!(counts.by_meaning.iter().all(|&times| times > 2_000));
+    assert!(counts.by_kind_7 > 1_000);
+    assert!(counts.refused[1..].iter().all(|&times| times > 100));
+}
+
+#[test]
+fn twenty_four_hundred_large_packs() {
     let counts = on_two_threads(43, Counts::default, |counts| counts.packs == LARGE_PACKS / 2, |rng, counts| {
         let mut q = packs::large_question(rng, Shape::at(counts.packs));
         let run = reasoner::passes(&q);
         run.draw_goal(rng, &mut q);
         let ours = settle(&q, &run, rng.below(5000), rng.below(300_000));
         counts.answered(&run, &ours);
+        without_kind_7(&q, &ours, counts);
         if counts.packs % 21 == 0 {
             with_faults(rng, &q, counts);
             // Sets are too slow for full tables.
@@ -225,7 +265,7 @@ fn two_thousand_large_packs() {
     });
     counts.print("packs of n = 64, m = 8");
     assert_eq!(counts.packs, LARGE_PACKS);
-    assert!(counts.follow > 500 && counts.not > 500);
+    assert!(counts.follow > 500 && counts.not > 500 && counts.by_kind_7 > 100);
     assert!(counts.refused[1..].iter().all(|&times| times > 20));
 }
 
@@ -368,6 +408,109 @@ fn every_goal_of_the_valve_pack() {
     assert_eq!(yes_steps(&packs::valve(4, 1)), long);
 }
 
+// ---- Kind 7 ----
+
+#[test]
+fn kind_7_and_kind_4() {
+    let q = packs::kind_7();
+    assert_eq!(calls::verdict(&q), 256);
+    // Three steps: 2 times 3 and 1 for FOLLOWS, above the low byte.
+    let sheet = [
+        0, 0, 0, 0, 0, 0, 0, 0, //
+        0, 0, 1, 0, 0, 0, 0, 0, //
+        1, 0, 0, 0, 0, 0, 0, 0,
+    ];
+    assert_eq!(calls::write_sheet(&q, &[7; 24]), (0x700, sheet.to_vec()));
+    assert_eq!(calls::write_sheet(&q, &[7; 26]), (0x700, [&sheet[..], &[7; 2]].concat()));
+    assert_eq!(calls::write_sheet(&q, &[7; 23]), (0x1808, vec![7; 23]));
+    assert_eq!(yes_steps(&q), KIND_7_STEPS);
+    // Everything is linked to itself, and the other way round nothing follows.
+    assert_eq!(no_rows(&Question { a: 1, b: 0, ..q.clone() }), [3, 2, 1, 2]);
+    // Record 0 not marked.
+    let q = Question { marks: marks([1]), ..q };
+    assert_eq!(calls::verdict(&q), 0);
+    assert_eq!(calls::write_sheet(&q, &[7; 32]), (0x800, rows(&[1, 2, 0, 0])));
+    assert_eq!(no_rows(&q), [1, 2, 0, 0]);
+    // Record 0 alone.
+    let q = Question { marks: marks([0]), ..q };
+    assert_eq!(calls::write_sheet(&q, &[7; 32]), (0x800, rows(&[1, 2, 1, 2])));
+    assert_eq!(no_rows(&q), [1, 2, 1, 2]);
+}
+
+#[test]
+fn kind_7_links_by_its_role_alone() {
+    let diagonal = |n: u64| (0..n).map(|x| 1 << x).collect::<Vec<u64>>();
+    for n in [2, 3, 63, 64] {
+        for role in 0..8 {
+            let mut expected = diagonal(n);
+            (0..8).for_each(|r| expected.extend(if r == role { diagonal(n) } else { vec![0; n as usize] }));
+            assert_eq!(no_rows(&question(n, 8, &[[7, role, 0, 0]], 0, n - 1)), expected);
+        }
+    }
+}
+
+#[test]
+fn kind_7_in_pass_order() {
+    // X ascending, and only what is new: 1 r 1 is there before.
+    let records = [[3, 1, 0, 1], [7, 0, 0, 0], [4, 0, 2, 0]];
+    let expected = [[0, 1, 0, 0], [1, 0, 0, 0], [1, 2, 0, 0], [2, 2, 2, 0]];
+    assert_eq!(yes_steps(&question(3, 1, &records, 2, 0)), expected);
+    // What stands before it in the pack sees its links in the second pass.
+    let q = question(2, 1, &[[4, 0, 0, 1], [7, 0, 0, 0]], 0, 1);
+    assert_eq!(yes_steps(&q), [[1, 0, 0, 0], [1, 1, 0, 0], [0, 0, 0, 0]]);
+    assert_eq!(reasoner::passes(&q).count, 3);
+    // Of two alike records the first one adds, and the second where it alone is marked.
+    let mut q = question(2, 1, &[[7, 0, 0, 0], [7, 0, 0, 0], [4, 0, 0, 1]], 0, 1);
+    assert_eq!(yes_steps(&q), [[0, 0, 0, 0], [0, 1, 0, 0], [2, 0, 0, 0]]);
+    q.marks = marks([1, 2]);
+    assert_eq!(yes_steps(&q), [[1, 0, 0, 0], [1, 1, 0, 0], [2, 0, 0, 0]]);
+    // The sheet ends with the goal, which no record of kind 7 can be.
+    let q = question(2, 1, &[[1, 0, 1, 0], [7, 0, 0, 0]], 0, 1);
+    assert_eq!(yes_steps(&q), [[0, 0, 0, 0]]);
+}
+
+#[test]
+fn kind_7_under_roles_and_in_chains() {
+    // r0 under r1: every X r1 X too.
+    let records = [[7, 0, 0, 0], [5, 0, 1, 0], [4, 1, 0, 1]];
+    let expected = [[0, 0, 0, 0], [0, 1, 0, 0], [1, 0, 0, 0], [1, 1, 1, 0], [2, 0, 0, 0]];
+    assert_eq!(yes_steps(&question(2, 2, &records, 0, 1)), expected);
+    // 0 r0 1. With r1 from everything to itself both chains make a link by r0 one by r2.
+    let self_links = [[1, 0, 0, 0], [1, 1, 0, 0], [1, 2, 0, 0]];
+    for (chain, step) in [([6, 0, 1, 2], [2, 0, 1, 1]), ([6, 1, 0, 2], [2, 0, 0, 1])] {
+        let q = question(3, 3, &[[3, 0, 0, 1], [7, 1, 0, 0], chain, [4, 2, 1, 2]], 0, 2);
+        let expected = [&[[0, 0, 0, 0]], &self_links[..], &[step, [3, 0, 1, 0]]].concat();
+        assert_eq!(yes_steps(&q), expected);
+        // 0 r0 1, and nothing by r2.
+        let struck = Question { marks: marks([0, 2, 3]), ..q };
+        assert_eq!(no_rows(&struck), [1, 2, 4, 2, 0, 0, 0, 0, 0, 0, 0, 0]);
+    }
+}
+
+#[test]
+fn every_fact_there_can_be_with_kind_7() {
+    // The bound stays: the first 8 records give 512 of the links, and the others what is left.
+    let full = runs::fullest();
+    let all: Vec<[u8; 4]> = (0..8).map(|role| [7, role, 0, 0]).collect();
+    let q = Question { pack: [packs::pack(&all), full.pack.clone()].concat(), marks: marks(0..646), ..full };
+    let run = reasoner::passes(&q);
+    let ours = settle(&q, &run, 1000, 200_000);
+    assert_eq!((ours.follows, ours.count, run.added.len()), (true, 36_800, 36_800));
+    let first = (0..8).flat_map(|role| (0..64).map(move |x| [role, x, 0, 0]));
+    assert_eq!(ours.sheet[..8 * 512], steps(&first.collect::<Vec<_>>()));
+    assert_eq!(ours.sheet[8 * 36_799..], steps(&[[645, 62, 0, 0]]));
+}
+
+#[test]
+fn damaged_fields_of_kind_7() {
+    for (q, expected) in damage::fields_of_kind_7() {
+        match expected {
+            Err(number) => refused(&q, number),
+            Ok(_) => assert_eq!(calls::verdict(&q), 0),
+        }
+    }
+}
+
 // ---- Run only: sizes, lengths, the longest pack; and refusals ----
 
 #[test]
@@ -439,7 +582,8 @@ fn refused_goals_and_marks() {
 
 #[test]
 fn every_length_of_a_buffer() {
-    for (q, len) in [(packs::valve(0, 1), 32), (packs::valve(2, 1), 120), (packs::valve(2, 2), 0)] {
+    let valves = [(packs::valve(0, 1), 32), (packs::valve(2, 1), 120), (packs::valve(2, 2), 0)];
+    for (q, len) in valves.into_iter().chain([(packs::kind_7(), 24)]) {
         let ours = answer(&q);
         assert_eq!(ours.sheet.len(), len);
         for room in 0..300 {
@@ -465,7 +609,7 @@ fn every_length_of_a_buffer() {
 #[test]
 fn a_later_record_does_not_hide_an_earlier_one() {
     // Two records with one left side, and what shows the conclusion of each.
-    let pairs: [(&[[u8; 4]], [[u8; 4]; 2], &[[u8; 4]], [u64; 2]); 6] = [
+    let pairs: [(&[[u8; 4]], [[u8; 4]; 2], &[[u8; 4]], [u64; 2]); 7] = [
         (&[], [[1, 0, 1, 0], [1, 0, 2, 0]], &[], [1, 2]),
         (&[], [[2, 0, 0, 1], [2, 0, 0, 2]], &[], [1, 2]),
         (&[], [[3, 0, 0, 1], [3, 0, 0, 2]], &[[4, 0, 1, 3], [4, 0, 2, 4]], [3, 4]),
@@ -477,6 +621,8 @@ fn a_later_record_does_not_hide_an_earlier_one() {
             &[[4, 1, 2, 3], [4, 2, 2, 4]],
             [3, 4],
         ),
+        // Kind 7 has no left side.
+        (&[], [[7, 0, 0, 0], [7, 1, 0, 0]], &[[4, 0, 0, 1], [4, 1, 0, 2]], [1, 2]),
     ];
     for (first, [one, other], last, goals) in pairs {
         for both in [[one, other], [other, one]] {

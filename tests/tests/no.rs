@@ -214,13 +214,14 @@ fn a_row_comes_before_a_broken_record_and_that_before_the_goal() {
 #[test]
 fn broken_records_of_each_kind_and_only_marked_ones() {
     // Two things; concepts 0 to 2; roles 0 to 2. Each world breaks its record and, mended, obeys it.
-    let cases: [([u8; 4], [u64; 8], [u64; 8]); 6] = [
+    let cases: [([u8; 4], [u64; 8], [u64; 8]); 7] = [
         ([1, 0, 2, 0], [0, 1, 0, 0, 0, 0, 0, 0], [0, 5, 0, 0, 0, 0, 0, 0]),
         ([2, 0, 1, 2], [0, 3, 0, 0, 0, 0, 0, 0], [2, 1, 0, 0, 0, 0, 0, 0]),
         ([3, 0, 1, 2], [1, 0, 0, 0, 2, 0, 0, 0], [1, 4, 0, 0, 2, 0, 0, 0]),
         ([4, 1, 0, 2], [0, 1, 0, 0, 2, 0, 0, 0], [4, 1, 0, 0, 2, 0, 0, 0]),
         ([5, 1, 2, 0], [1, 0, 0, 0, 2, 0, 0, 2], [1, 0, 0, 0, 2, 0, 2, 0]),
         ([6, 0, 1, 2], [1, 0, 2, 0, 0, 1, 0, 1], [1, 0, 2, 0, 0, 1, 1, 0]),
+        ([7, 1, 0, 0], [1, 0, 3, 3, 3, 1, 3, 3], [1, 0, 0, 0, 1, 2, 0, 0]),
     ];
     for (record, breaks, obeys) in cases {
         // A record before it that every world obeys; the goal is refuted by some thing in 0.
@@ -230,6 +231,59 @@ fn broken_records_of_each_kind_and_only_marked_ones() {
         assert_eq!(mended, ACCEPTED, "{record:?}");
         q.marks = packs::marks([0]);
         assert!(number(no(&q, &rows(&breaks))) != 12);
+    }
+}
+
+#[test]
+fn a_world_that_lacks_one_self_link() {
+    // As many things as concepts, fewer and more; the record of kind 7 first, in the middle and last.
+    for (n, k) in [(2, 1), (2, 2), (5, 3), (3, 64), (64, 63), (64, 64)] {
+        for place in [0, 4, 8] {
+            let mut records = [[1, 0, 0, 0]; 9];
+            records[place] = [7, 1, 0, 0];
+            let q = packs::question(n, 2, &records, 0, 1);
+            // Every thing is in 0 alone, and linked by role 1 to itself alone, or to everything.
+            let mut world = worlds::World { k, concepts: vec![1; k], links: vec![vec![0; k]; 2] };
+            for all in [0, u64::MAX >> (64 - k)] {
+                (0..k).for_each(|x| world.links[1][x] = all | 1 << x);
+                assert_eq!(no(&q, &world.sheet()), ACCEPTED);
+                for x in 0..k {
+                    world.links[1][x] ^= 1 << x;
+                    assert_eq!(no(&q, &world.sheet()), Err(broken_at(place)), "thing {x} of {k}");
+                    // By role 0 it is of no use; where the record is not marked it is not missed.
+                    world.links[0][x] = 1 << x;
+                    assert_eq!(no(&q, &world.sheet()), Err(broken_at(place)));
+                    let marks = packs::marks((0..9).filter(|&other| other != place));
+                    assert_eq!(no(&Question { marks, ..q.clone() }, &world.sheet()), ACCEPTED);
+                    (world.links[0][x], world.links[1][x]) = (0, all | 1 << x);
+                }
+            }
+        }
+    }
+}
+
+#[test]
+fn kind_7_among_other_broken_records() {
+    // Two things; record 1 asks for self-links by role 0, record 2 that whoever is linked to one in 0 is in 1.
+    let q = packs::question(2, 1, &[[1, 0, 0, 0], [7, 0, 0, 0], [4, 0, 0, 1]], 0, 1);
+    assert_eq!(no(&Question { a: 1, b: 0, ..q.clone() }, &rows(&[3, 2, 1, 2])), ACCEPTED);
+    // No world refutes goal (0,1): thing 0 is linked to itself, or record 1 is broken.
+    assert_eq!(no(&q, &rows(&[1, 2, 1, 2])), Err(broken_at(2)));
+    assert_eq!(no(&q, &rows(&[1, 2, 0, 2])), Err(broken_at(1)));
+    // Both broken; a link to thing 2 comes before them.
+    assert_eq!(no(&q, &rows(&[1, 1, 2, 2])), Err(broken_at(1)));
+    assert_eq!(no(&q, &rows(&[1, 1, 2, 6])), Err(row_at(3)));
+    // The same two worlds where record 1 is not marked.
+    let q = Question { marks: packs::marks([0, 2]), ..q };
+    assert_eq!(no(&q, &rows(&[1, 1, 2, 2])), Err(broken_at(2)));
+    assert_eq!(no(&q, &rows(&[1, 2, 0, 2])), ACCEPTED);
+}
+
+#[test]
+fn damaged_fields_of_kind_7() {
+    for (q, expected) in damage::fields_of_kind_7() {
+        // One thing that is in 0 alone, linked to itself by role 1.
+        assert_eq!(no(&q, &rows(&[1, 0, 1])), expected.map(|_| ()));
     }
 }
 

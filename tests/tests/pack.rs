@@ -1,4 +1,4 @@
-//! The pack check and the question check against document 01's rules and against written-out answers.
+//! The pack check and the question check against the rules of documents 01 and 02 and against written-out answers.
 
 use noolukask_tests::rng::Rng;
 use noolukask_tests::rules::{
@@ -77,7 +77,8 @@ fn highest(kind: u8, n: u8, m: u8) -> [u8; 4] {
         3 => [3, n - 1, m - 1, n - 1],
         4 => [4, m - 1, n - 1, n - 1],
         5 => [5, m - 1, m - 1, 0],
-        _ => [6, m - 1, m - 1, m - 1],
+        6 => [6, m - 1, m - 1, m - 1],
+        _ => [7, m - 1, 0, 0],
     }
 }
 
@@ -94,6 +95,8 @@ fn field_end(kind: u8, field: usize, n: u8, m: u8) -> u8 {
         (5, 1) | (5, 2) => m,
         (5, 3) => 1,
         (6, _) => m,
+        (7, 1) => m,
+        (7, 2) | (7, 3) => 1,
         _ => unreachable!(),
     }
 }
@@ -102,7 +105,7 @@ fn field_end(kind: u8, field: usize, n: u8, m: u8) -> u8 {
 fn every_value_of_every_field_of_every_kind() {
     for (n, m, records) in [(1, 1, 1), (5, 2, 9), (64, 8, 3), (64, 8, 1024)] {
         let filler = packs::filler(8 * records);
-        for kind in 1..=6 {
+        for kind in 1..=7 {
             for place in [0, records / 2, records - 1] {
                 let mut pack = filler.clone();
                 pack[8 * place..8 * place + 4].copy_from_slice(&highest(kind, n, m));
@@ -130,15 +133,23 @@ fn every_kind_byte() {
         for kind in 0..=255 {
             let mut pack = packs::filler(8 * 9);
             pack[8 * place] = kind;
-            let expected = if (1..=6).contains(&kind) { Ok(9) } else { Err(record_at(place)) };
+            let expected = if (1..=7).contains(&kind) { Ok(9) } else { Err(record_at(place)) };
             assert_eq!(pack_check(5, 2, &pack), expected);
         }
     }
 }
 
 #[test]
+fn damaged_fields_of_kind_7() {
+    for (q, expected) in damage::fields_of_kind_7() {
+        assert_eq!(question_check(&q), expected);
+        assert_eq!(pack_check(q.n, q.m, &q.pack), expected);
+    }
+}
+
+#[test]
 fn without_roles_no_record_may_name_one() {
-    for kind in 1..=6 {
+    for kind in 1..=7 {
         let expected = if kind <= 2 { Ok(1) } else { Err(record_at(0)) };
         assert_eq!(pack_check(5, 0, &packs::pack(&[[kind, 0, 0, 0]])), expected);
     }

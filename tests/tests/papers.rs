@@ -3,7 +3,8 @@
 //!
 //! An axiom with several parts on the right becomes a record for each part. "A is B and some r C" (≡) becomes
 //! "A under B" and "A under some r C", and for the way back "some r C under N" with a new name N, and "B and N
-//! under A". What has no record is left out: the bottom concept and the empty role chain.
+//! under A". The empty role chain under r (ϵ) becomes "everything r itself". What has no record is left out: the
+//! bottom concept.
 
 use noolukask_tests::calls;
 use noolukask_tests::compared::{module, set};
@@ -42,6 +43,7 @@ impl<'a> Example<'a> {
             [a, "under", "some", r, b] => [3, self.concept(a), self.role(r), self.concept(b)],
             [a, "and", b, "under", c] => [2, self.concept(a), self.concept(b), self.concept(c)],
             [r, "then", s, "under", t] => [6, self.role(r), self.role(s), self.role(t)],
+            ["everything", r, "itself"] => [7, self.role(r), 0, 0],
             [r, "under", s] if self.roles.contains(&r) => [5, self.role(r), self.role(s), 0],
             [a, "under", b] => [1, self.concept(a), self.concept(b), 0],
             _ => panic!("no record: {words}"),
@@ -166,8 +168,8 @@ fn document_000_entities_instead_of_structures() {
     example.only_reason("InjToFinger", "InjToHand", &[3, 4, 8, 11]);
 }
 
-/// Document 001, table 2, without axiom 10, which has the bottom concept, and axiom 12, the empty role chain.
-/// "In" names are for the parts with a location. In axiom 11 "Viral" is the whole left side.
+/// Document 001, table 2, without axiom 10, which has the bottom concept. "In" names are for the parts with a
+/// location. In axiom 11 "Viral" is the whole left side.
 const MEDICAL: Axioms = &[
     (1, &["Appendix under BodyPart", "Appendix under some part-of Heart"]),
     (2, &["Endocardium under Tissue", "Endocardium under some part-of HeartValve",
@@ -185,6 +187,7 @@ const MEDICAL: Axioms = &[
         "some has-location Heart under In9", "Disease and In9 under HeartDisease"]),
     (11, &["some causative-agent Virus under Caused", "HeartDisease and Caused under Viral",
         "Viral under ViralDisease", "Viral under some has-state NeedsTreatment"]),
+    (12, &["everything part-of itself"]),
     (13, &["part-of then part-of under part-of"]),
     (14, &["has-location then part-of under has-location"]),
     (15, &["has-exact-location under has-location"]),
@@ -196,8 +199,8 @@ const MEDICAL_ROLES: &[&str] =
 #[test]
 fn document_001_table_2() {
     let mut example = Example::new(MEDICAL_ROLES, MEDICAL);
-    // The starred axioms, those that are left out aside.
-    assert_eq!(example.module("Endocarditis"), [2, 3, 4, 6, 8, 9, 13, 14]);
+    // The starred axioms, that which is left out aside.
+    assert_eq!(example.module("Endocarditis"), [2, 3, 4, 6, 8, 9, 12, 13, 14]);
     // Of the two justifications the printed one lacks what stands first, the heart valve.
     let q = example.question("Endocarditis", "HeartDisease");
     let wall = set(&q).expect("it follows");
@@ -231,10 +234,12 @@ fn document_001_subsumption_1() {
     // "The only justification" of the intended error.
     example.only_reason("Appendicitis", "HeartDisease", &[1, 5, 8, 9, 14]);
     // The module of the valve alone says nothing of diseases.
-    assert_eq!(example.module("HeartValve"), [3, 13]);
+    assert_eq!(example.module("HeartValve"), [3, 12, 13]);
+    // Nothing leads on from a virus; that everything is part of itself is said of it too.
+    assert_eq!(example.module("Virus"), [12, 13]);
 }
 
-/// Document 003, figure 2, without axiom 13, the empty role chain. "At" names are for the parts with a location.
+/// Document 003, figure 2. "At" names are for the parts with a location.
 const PARTHOOD: Axioms = &[
     (1, &["Finger under BodyPart", "Finger under some proper-part-of Hand"]),
     (2, &["Hand under BodyPart", "Hand under some proper-part-of UpperLimb"]),
@@ -255,6 +260,7 @@ const PARTHOOD: Axioms = &[
     (10, &["proper-part-of then proper-part-of under proper-part-of"]),
     (11, &["proper-part-of under part-of"]),
     (12, &["part-of then part-of under part-of"]),
+    (13, &["everything part-of itself"]),
     (14, &["has-exact-location under has-location"]),
     (15, &["has-location then proper-part-of under has-location"]),
 ];
@@ -274,7 +280,9 @@ fn document_003_figure_2() {
     // Even so it is located at the hand.
     example.only_reason("AmputationOfFinger", "At8", &[1, 4, 8, 14, 15]);
     // No amputation is reached from an injury: it has no exact location.
-    assert_eq!(example.module("InjuryToFinger"), [1, 2, 3, 7, 8, 9, 10, 11, 12, 15]);
+    assert_eq!(example.module("InjuryToFinger"), [1, 2, 3, 7, 8, 9, 10, 11, 12, 13, 15]);
+    // Of a body part without whole no more than that it is one and that part-of is reflexive and transitive.
+    assert_eq!(example.module("UpperLimb"), [3, 12, 13]);
     // Without axiom 15 nothing is inherited.
     let right_identity = example.place("has-location then proper-part-of under has-location");
     let q = example.question("InjuryToFinger", "InjuryToHand");
@@ -296,8 +304,63 @@ fn document_003_triplets_defined_by_parthood() {
     // "We can only conclude" that FingerS is under HandS, "but not" that it is under HandP.
     example.only_reason("FingerS", "HandS", &[1, 11, 12, 16, 18]);
     assert_eq!(example.set("FingerS", "HandP"), None);
+    // S is for "both entire objects and their parts": by axiom 13 the entire hand too. P is for "the proper parts".
+    example.only_reason("Hand", "HandS", &[13, 18]);
+    example.only_reason("Finger", "HandS", &[1, 11, 18]);
+    example.only_reason("HandP", "HandS", &[11, 18, 19]);
+    example.only_reason("Finger", "HandP", &[1, 19]);
+    assert_eq!(example.set("Hand", "HandP"), None);
+    // Not all that is in the structure is the entire hand.
+    assert_eq!(example.set("HandS", "Hand"), None);
     // "In order to obtain the second subsumption, we would need to add" the left identity.
     let cyclic = [&extended[..], left_identity].concat();
     let example = Example::new(PARTHOOD_ROLES, &cyclic);
     example.only_reason("FingerS", "HandP", &[1, 16, 19, 20]);
+}
+
+/// Document 003's way with a site. "HeartStructure" is the heart and its parts, as HandS is the hand and its parts.
+/// Concepts by their numbers: 0 ValveRepair, 1 Valve, 2 Heart, 3 AtHeart, 4 HeartStructure, 5 StructureProcedure,
+/// 6 HeartRepair. Roles: 0 site, 1 part-of.
+const SITES: Axioms = &[
+    (1, &["ValveRepair under some site Valve"]),
+    (2, &["Valve under some part-of Heart"]),
+    (3, &["some site Heart under AtHeart"]),
+    (4, &["some part-of Heart under HeartStructure"]),
+    (5, &["some site HeartStructure under StructureProcedure"]),
+    (6, &["HeartRepair under some site Heart"]),
+    (7, &["everything part-of itself"]),
+    (8, &["site then part-of under site"]),
+];
+
+#[test]
+fn document_003_a_whole_among_its_own_parts() {
+    let mut example = Example::new(&["site", "part-of"], SITES);
+    let concepts = "ValveRepair Valve Heart AtHeart HeartStructure StructureProcedure HeartRepair";
+    assert_eq!(example.concepts, concepts.split(' ').collect::<Vec<_>>());
+    let records: [[u8; 4]; 8] = [
+        [3, 0, 0, 1], [3, 1, 1, 2], [4, 0, 2, 3], [4, 1, 2, 4], [4, 0, 4, 5], [3, 6, 0, 2], [7, 1, 0, 0], [6, 0, 1, 0],
+    ];
+    assert_eq!(example.records, records);
+    // What is sited in a part is sited in the whole.
+    example.only_reason("ValveRepair", "AtHeart", &[1, 2, 3, 8]);
+    // The whole is among its own parts: it is by axiom 7 alone that the heart is in its structure.
+    example.only_reason("Heart", "HeartStructure", &[4, 7]);
+    example.only_reason("HeartRepair", "StructureProcedure", &[4, 5, 6, 7]);
+    // The valve is a part by axiom 2.
+    example.only_reason("Valve", "HeartStructure", &[2, 4]);
+    example.only_reason("ValveRepair", "StructureProcedure", &[1, 2, 4, 5]);
+    let itself = example.place("everything part-of itself");
+    let without = |a: &str, b: &str| set(&example.without(&example.question(a, b), |place| place == itself));
+    assert_eq!(without("Heart", "HeartStructure"), None);
+    assert_eq!(without("HeartRepair", "StructureProcedure"), None);
+    assert_eq!(without("ValveRepair", "AtHeart"), Some(vec![0, 1, 2, 7]));
+    assert_eq!(without("Valve", "HeartStructure"), Some(vec![1, 3]));
+    // A part is no whole, and the heart is no procedure.
+    assert_eq!([example.set("Heart", "Valve"), example.set("Heart", "StructureProcedure")], [None, None]);
+    // From the heart part-of is reached, and so its structure; a site is not.
+    assert_eq!(example.module("Heart"), [4, 7]);
+    assert_eq!(example.module("Valve"), [2, 4, 7]);
+    assert_eq!(example.module("HeartRepair"), [3, 4, 5, 6, 7, 8]);
+    let struck = example.without(&example.question("HeartRepair", "AtHeart"), |place| place == itself);
+    assert_eq!(module(&struck), [2, 5]);
 }

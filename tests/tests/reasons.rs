@@ -3,7 +3,7 @@
 
 use noolukask_tests::calls::filled;
 use noolukask_tests::compared::{ask_module, ask_set, minimal, module, set};
-use noolukask_tests::packs::{self, marks, places, question, steps, valve, Shape, SHAPES, VALVE};
+use noolukask_tests::packs::{self, kind_7, marks, places, question, steps, valve, Shape, SHAPES, VALVE};
 use noolukask_tests::reasons::{self, only};
 use noolukask_tests::rng::Rng;
 use noolukask_tests::rules::{
@@ -13,7 +13,10 @@ use noolukask_tests::threads::{self, on_two_threads};
 use noolukask_tests::{calls, chains, damage, reasoner, runs, worlds};
 
 const SMALL_PACKS: u64 = 20_000;
-const LARGE_PACKS: u64 = 300;
+/// Further ones in which a fifth of the records are of kind 7.
+const SELF_LINKED_PACKS: u64 = 5_000;
+/// 60 of them with a fifth of kind 7.
+const LARGE_PACKS: u64 = 360;
 const SUBSETS: u64 = 2_000_000;
 
 /// Lengths that out marks may not have.
@@ -27,8 +30,8 @@ struct Counts {
     packs: u64,
     /// The empty sets of free goals, and sets of one, two, three and more records.
     sizes: [u64; 5],
-    /// How many sets have a record of kinds 1 to 6.
-    kinds: [u64; 6],
+    /// How many sets have a record of kinds 1 to 7.
+    kinds: [u64; 7],
     /// How often each number came back.
     numbers: [u64; 8],
     /// The most records of each in one answer.
@@ -36,7 +39,7 @@ struct Counts {
     set: usize,
     subsets: u64,
     /// For large packs: how many sets there were of each shape.
-    shapes: [u64; 5],
+    shapes: [u64; SHAPES.len()],
 }
 
 impl Counts {
@@ -51,7 +54,7 @@ impl Counts {
     fn printed(&mut self, q: &Question, set: &[usize]) {
         self.set = self.set.max(set.len());
         self.sizes[set.len().min(4)] += 1;
-        for kind in 1..=6 {
+        for kind in 1..=7 {
             let has = set.iter().any(|&place| record(&q.pack, place).kind == kind);
             self.kinds[usize::from(kind) - 1] += u64::from(has);
         }
@@ -66,7 +69,7 @@ impl Counts {
     fn print(&self, what: &str) {
         println!(
             "counts: reasons on {} {what}: sets of 0, 1, 2, 3 and more records {:?}, the largest of {}; with \
-             kinds 1 to 6 {:?}; the largest module of {}; refused with 1 to 7 {:?}; subsets asked {}; by shape {:?}",
+             kinds 1 to 7 {:?}; the largest module of {}; refused with 1 to 7 {:?}; subsets asked {}; by shape {:?}",
             self.packs, self.sizes, self.set, self.kinds, self.module, &self.numbers[1..], self.subsets, self.shapes,
         );
     }
@@ -114,16 +117,21 @@ fn every_goal(q: &Question, counts: &mut Counts) {
     }
 }
 
+/// One small pack; sometimes with faults and for every goal.
+fn small_pack(rng: &mut Rng, q: &Question, counts: &mut Counts) {
+    counts.answered(q, &module(q), set(q).as_deref());
+    if counts.packs % 50 == 0 {
+        with_faults(rng, q, counts);
+        every_goal(q, counts);
+    }
+    counts.packs += 1;
+}
+
 #[test]
 fn twenty_thousand_small_packs() {
     let counts = on_two_threads(61, Counts::default, |counts| counts.packs == SMALL_PACKS / 2, |rng, counts| {
         let q = chains::small_question(rng, 80);
-        counts.answered(&q, &module(&q), set(&q).as_deref());
-        if counts.packs % 50 == 0 {
-            with_faults(rng, &q, counts);
-            every_goal(&q, counts);
-        }
-        counts.packs += 1;
+        small_pack(rng, &q, counts);
     });
     counts.print("small packs");
     assert_eq!(counts.packs, SMALL_PACKS);
@@ -133,9 +141,28 @@ fn twenty_thousand_small_packs() {
 }
 
 #[test]
+fn five_thousand_small_packs_with_a_fifth_of_kind_7() {
+    let done = |counts: &Counts| counts.packs == SELF_LINKED_PACKS / 2;
+    let counts = on_two_threads(67, Counts::default, done, |rng, counts| {
+        let q = chains::fifth_of_kind_7(rng);
+        // Marked records of kind 7 are in every module.
+        let always = places(&q.marks).into_iter().filter(|&place| record(&q.pack, place).kind == 7);
+        let inside = module(&q);
+        assert!(always.into_iter().all(|place| inside.contains(&place)), "{inside:?}\n{}", show(&q));
+        small_pack(rng, &q, counts);
+    });
+    counts.print("small packs with a fifth of kind 7");
+    assert_eq!(counts.packs, SELF_LINKED_PACKS);
+    assert!(counts.numbers[7] > 1_000);
+    counts.assert_varied(200, 25);
+    assert!(counts.kinds[6] > 500, "{:?}", counts.kinds);
+}
+
+#[test]
 fn all_subsets_of_up_to_twelve_records() {
     let counts = on_two_threads(63, Counts::default, |counts| counts.subsets > SUBSETS / 2, |rng, counts| {
-        let q = chains::small_question(rng, 80);
+        // One of five with a fifth of kind 7.
+        let q = if counts.packs % 5 == 4 { chains::fifth_of_kind_7(rng) } else { chains::small_question(rng, 80) };
         let set = set(&q);
         assert_eq!(set, reasons::printed_of_all(&q), "{}", show(&q));
         counts.answered(&q, &module(&q), set.as_deref());
@@ -148,11 +175,11 @@ fn all_subsets_of_up_to_twelve_records() {
 }
 
 #[test]
-fn three_hundred_large_packs() {
+fn three_hundred_and_sixty_large_packs() {
     let counts = on_two_threads(65, Counts::default, |counts| counts.packs == LARGE_PACKS / 2, |rng, counts| {
         // A set of 1,024 dense records takes as long as a hundred others: few of them.
         let shape = match Shape::at(counts.packs) {
-            Shape::Dense if counts.packs % 80 != 13 => Shape::Sparse,
+            Shape::Dense if counts.packs % 96 != 13 => Shape::Sparse,
             shape => shape,
         };
         counts.packs += 1;
@@ -233,6 +260,51 @@ fn c7_to_c10() {
     turned[2] = [6, 1, 0, 0];
     let q = only(&question(5, 2, &turned, 0, 1), &[0, 1, 2, 3, 5]);
     assert_eq!((module(&q), set(&q)), (vec![0, 1, 2, 3], None));
+}
+
+#[test]
+fn kind_7_and_kind_4() {
+    let q = kind_7();
+    assert_eq!(calls::module(&q, &[7; 128]), (0x200, out(&[(0, 0x03)])));
+    assert_eq!(calls::printed_set(&q, &[7; 128]), (0x200, out(&[(0, 0x03)])));
+    assert_eq!((module(&q), set(&q)), (vec![0, 1], Some(vec![0, 1])));
+    // From 1 the role is reached all the same, and record 1 asks for 0 besides.
+    let back = Question { a: 1, b: 0, ..q.clone() };
+    assert_eq!(calls::module(&back, &[7; 128]), (0x100, out(&[(0, 0x01)])));
+    assert_eq!((module(&back), set(&back)), (vec![0], None));
+    // Record 0 not marked: neither the role nor record 1 is reached.
+    let q = only(&q, &[1]);
+    assert_eq!(calls::module(&q, &[7; 128]), (0, vec![0; 128]));
+    assert_eq!(calls::printed_set(&q, &[7; 128]), (7, vec![7; 128]));
+    assert_eq!((module(&q), set(&q)), (vec![], None));
+}
+
+#[test]
+fn kind_7_is_in_every_module() {
+    // Role 1 is reached from every concept, and by it roles 2 and 3; role 0 from 6 alone, and 6 from 7.
+    let records = [[7, 1, 0, 0], [5, 0, 3, 0], [7, 1, 0, 0], [5, 2, 3, 0], [5, 1, 2, 0], [4, 3, 7, 6], [3, 6, 0, 6]];
+    for a in 0..8 {
+        let q = question(8, 4, &records, a, a);
+        let reached: &[usize] = match a {
+            6 => &[0, 1, 2, 3, 4, 6],
+            7 => &[0, 1, 2, 3, 4, 5, 6],
+            _ => &[0, 2, 3, 4],
+        };
+        assert_eq!(module(&q), reached, "{a}");
+        // One of the two is enough, and without either nothing is reached.
+        assert_eq!(module(&only(&q, &[1, 2, 3, 4])), [2, 3, 4], "{a}");
+        assert_eq!(module(&only(&q, &[1, 3, 4, 5])), [], "{a}");
+    }
+    // With 1,024 of them the module is the whole pack; of alike ones the last that is marked is in the set.
+    let mut records = [[7, 0, 0, 0]; 1024];
+    let q = question(2, 1, &records, 0, 1);
+    assert_eq!(calls::module(&q, &[7; 128]), (0x40000, vec![255; 128]));
+    assert_eq!(set(&q), None);
+    records[500] = [4, 0, 0, 1];
+    let q = question(2, 1, &records, 0, 1);
+    assert_eq!(places(&calls::printed_set(&q, &filled(128)).1), [500, 1023]);
+    let up_to = Question { marks: marks(0..=500), ..q };
+    assert_eq!(places(&calls::printed_set(&up_to, &filled(128)).1), [499, 500]);
 }
 
 #[test]
@@ -318,7 +390,9 @@ fn the_longest_pack_with_its_last_record_marked() {
     // With all 1,024 marked, 0 is still under 1 by the last one alone.
     let all = Question { marks: vec![255; 128], ..q.clone() };
     assert_eq!(calls::printed_set(&all, &[7; 128]), (0x100, out(&[(127, 0x80)])));
-    assert_eq!(module(&all).len(), 232);
+    // 438 records of kinds 5 to 7, since kind 7 brings in every role, the 10 others that name 1 on their left side, and
+    // the last one.
+    assert_eq!(module(&all).len(), 449);
     let mut longer = all;
     longer.pack.extend([1, 0, 1, 0, 0, 0, 0, 0]);
     refused(&longer, PACK);
@@ -346,6 +420,16 @@ fn every_single_mark() {
 #[test]
 fn of_several_faults_the_lowest_number() {
     damage::several_at_once().into_iter().for_each(|(q, number)| refused(&q, number));
+}
+
+#[test]
+fn damaged_fields_of_kind_7() {
+    for (q, expected) in damage::fields_of_kind_7() {
+        match expected {
+            Err(number) => refused(&q, number),
+            Ok(_) => assert_eq!((module(&q), set(&q)), ((0..9).collect(), None)),
+        }
+    }
 }
 
 #[test]
@@ -399,13 +483,14 @@ fn a_free_goal_needs_no_record() {
 fn a_record_is_in_the_module_when_all_its_left_side_is() {
     // A record, and for each name on its left side a record that brings it in: 0 under a concept, or 0 under
     // some role 7, which is in nothing else. Concepts 1 and 2, roles 0 and 1; then 5 shows what it brings.
-    let cases: [([u8; 4], &[[u8; 4]], [u8; 4]); 6] = [
+    let cases: [([u8; 4], &[[u8; 4]], [u8; 4]); 7] = [
         ([1, 1, 5, 0], &[[1, 0, 1, 0]], [1, 5, 6, 0]),
         ([2, 1, 2, 5], &[[1, 0, 1, 0], [1, 0, 2, 0]], [1, 5, 6, 0]),
         ([3, 1, 2, 5], &[[1, 0, 1, 0]], [4, 2, 5, 6]),
         ([4, 0, 1, 5], &[[3, 0, 0, 7], [1, 0, 1, 0]], [1, 5, 6, 0]),
         ([5, 0, 2, 0], &[[3, 0, 0, 7]], [5, 2, 3, 0]),
         ([6, 0, 1, 2], &[[3, 0, 0, 7], [3, 0, 1, 7]], [5, 2, 3, 0]),
+        ([7, 2, 0, 0], &[], [5, 2, 3, 0]),
     ];
     for (record, brings, shows) in cases {
         let records = [&[shows, record], brings].concat();

@@ -6,7 +6,7 @@ use noolukask_tests::rules::{
     marked, number, record, sheet_answer, step_at, Question, Refused, ACCEPTED, LENGTH, NOT_SHOWN,
 };
 use noolukask_tests::trial::{Check, Trial};
-use noolukask_tests::{calls, checker, derive};
+use noolukask_tests::{calls, checker, damage, derive};
 
 const CHECK: Check = Check { what: "yes check", call: calls::check_yes, checker: checker::check_yes };
 
@@ -149,9 +149,11 @@ fn a_goal_that_is_free_needs_no_step() {
 
 #[test]
 fn each_kind_in_one_step_more() {
-    // Concepts 0 to 3, roles 0 to 2; each line adds a kind to the steps before it.
-    let records =
-        [[1, 0, 1, 0], [2, 0, 1, 2], [3, 2, 0, 3], [5, 0, 1, 0], [6, 1, 1, 2], [4, 1, 3, 3], [3, 3, 1, 0]];
+    // Concepts 0 to 4, roles 0 to 3; each line adds a kind to the steps before it.
+    let records = [
+        [1, 0, 1, 0], [2, 0, 1, 2], [3, 2, 0, 3], [5, 0, 1, 0], [6, 1, 1, 2], [4, 1, 3, 3], [3, 3, 1, 0], [7, 3, 0, 0],
+        [4, 3, 3, 4],
+    ];
     let list = [
         [0, 0, 0, 0], // 0 in 1
         [1, 0, 0, 0], // 0 in 2
@@ -160,8 +162,10 @@ fn each_kind_in_one_step_more() {
         [6, 3, 0, 0], // 3 r1 0
         [4, 0, 3, 0], // 0 r2 0
         [5, 0, 3, 0], // 0 in 3
+        [7, 0, 0, 0], // 0 r3 0
+        [8, 0, 0, 0], // 0 in 4
     ];
-    let q = packs::question(4, 3, &records, 0, 3);
+    let q = packs::question(5, 4, &records, 0, 4);
     assert_eq!(yes(&q, &steps(&list)), ACCEPTED);
     for missing in 0..list.len() {
         let mut short = list.to_vec();
@@ -170,9 +174,80 @@ fn each_kind_in_one_step_more() {
             0..=2 => Err(step_at(missing)),
             3 | 4 => Err(step_at(4)),
             5 => ACCEPTED,
+            6 | 7 => Err(step_at(7)),
             _ => Err(NOT_SHOWN),
         };
         assert_eq!(yes(&q, &steps(&short)), expected, "without step {missing}");
+    }
+}
+
+#[test]
+fn kind_7_needs_no_premise() {
+    // 0 r 0, 1 r 1, 0 in 1.
+    let q = packs::kind_7();
+    let sheet = [
+        0, 0, 0, 0, 0, 0, 0, 0, //
+        0, 0, 1, 0, 0, 0, 0, 0, //
+        1, 0, 0, 0, 0, 0, 0, 0,
+    ];
+    assert_eq!(sheet[..], packs::kind_7_yes_sheet());
+    assert_eq!(yes(&q, &sheet), ACCEPTED);
+    // 1 r 1 is not needed, and may be concluded again; 0 r 0 is needed, and 1 r 1 is no 0 r 0.
+    assert_eq!(yes(&q, &[&sheet[..8], &sheet[16..]].concat()), ACCEPTED);
+    assert_eq!(yes(&q, &[&sheet[..16], &sheet[8..]].concat()), ACCEPTED);
+    assert_eq!(yes(&q, &sheet[8..]), Err(step_at(1)));
+    assert_eq!(yes(&q, &sheet[16..]), Err(step_at(0)));
+    assert_eq!(yes(&q, &sheet[..16]), Err(NOT_SHOWN));
+    // Not without the record.
+    assert_eq!(yes(&Question { marks: packs::marks([1]), ..q.clone() }, &sheet), Err(step_at(0)));
+    // A self-link by role 0 is none by role 1.
+    let other = packs::question(2, 2, &[[7, 0, 0, 0], [4, 1, 0, 1]], 0, 1);
+    assert_eq!(yes(&other, &sheet), Err(step_at(2)));
+}
+
+#[test]
+fn a_step_of_kind_7_uses_x_alone() {
+    // Steps of kind 7 for the highest X and others, at the start, in the middle and at the end of a sheet.
+    let records = [[1, 0, 1, 0], [7, 7, 0, 0], [7, 0, 0, 0]];
+    let good = [[1, 63, 0, 0], [0, 0, 0, 0], [2, 0, 0, 0], [1, 5, 0, 0], [2, 63, 0, 0]];
+    let q = packs::question(64, 8, &records, 0, 1);
+    assert_eq!(yes(&q, &steps(&good)), ACCEPTED);
+    for step in [0, 2, 3, 4] {
+        let [place, x, _, _] = good[step];
+        // Y, Z or both are set, also to X itself; X is not below n.
+        let unused = [[1, 0], [0, 1], [x, x], [x.max(1), 0], [0, x.max(1)], [63, 63], [255, 0], [0, 255]];
+        let unused = unused.into_iter().filter(|&other| other != [0, 0]).map(|[y, z]| [place, x, y, z]);
+        for bad in unused.chain([[place, 64, 0, 0], [place, 255, 0, 0]]) {
+            let mut list = good;
+            list[step] = bad;
+            assert_eq!(yes(&q, &steps(&list)), Err(step_at(step)), "{bad:?}");
+        }
+        // The three zero bytes.
+        for byte in 5..8 {
+            let mut sheet = steps(&good);
+            sheet[8 * step + byte] = 1;
+            assert_eq!(yes(&q, &sheet), Err(step_at(step)));
+        }
+    }
+}
+
+#[test]
+fn every_x_is_linked_to_itself_alone() {
+    // Some r Y is under 4: what is X is in it where Y is X, and not by another Y.
+    for (x, y) in (0..4).flat_map(|x| (0..4).map(move |y| (x, y))) {
+        let q = packs::question(5, 1, &[[7, 0, 0, 0], [4, 0, y as u8, 4]], x, 4);
+        let sheet = steps(&[[0, x as u16, 0, 0], [1, x as u16, y, 0]]);
+        assert_eq!(yes(&q, &sheet), if x == u64::from(y) { ACCEPTED } else { Err(step_at(1)) });
+    }
+}
+
+#[test]
+fn damaged_fields_of_kind_7() {
+    for (q, expected) in damage::fields_of_kind_7() {
+        // One step for each record; the goal is another.
+        let sheet = steps(&[[0, 0, 0, 0], [4, 4, 0, 0], [8, 1, 0, 0]]);
+        assert_eq!(yes(&q, &sheet), expected.and(Err(NOT_SHOWN)));
+        assert_eq!(yes(&Question { b: q.a, ..q }, &sheet), expected.map(|_| ()));
     }
 }
 

@@ -23,13 +23,13 @@ use Rattle.writer.specs.Sheet.{yesBytes, noBytes}
 use Rattle.reasons.specs.Printed.{without}
 use Rattle.reasons.specs.Reach.{allIn, moduleIn}
 use Rattle.reasons.specs.Computed.{sameName, bothSides, reachPass, reached, moduleOf, spared, picked, printed}
-use Rattle.cases.specs.Cases.{AllHold, recordOf, step, row, rows, ask, valve, turned, later, unchained, documentCases, questionCases, brokenRecords, recordCases, sheetCases, caseTable}
+use Rattle.cases.specs.Cases.{AllHold, recordOf, step, row, rows, ask, valve, turned, itself, anatomy, parts, later, unchained, documentCases, questionCases, brokenRecords, recordCases, sheetCases, caseTable}
 use Rattle.cases.proofs.CaseLaws.{worked, claimed, all-hold}
 
 -- EVERY ROW HOLDS
 pub cases : AllHold caseTable
 unfolding
-    recordOf step row rows ask valve turned later unchained documentCases questionCases brokenRecords recordCases sheetCases caseTable worked claimed flatten has withBit rowOf lowest countTo every some listed marked marksFit marksOf lineAt implies obeysAt obeys checkRecords checkPack checkQuestion
+    recordOf step row rows ask valve turned itself anatomy parts later unchained documentCases questionCases brokenRecords recordCases sheetCases caseTable worked claimed flatten has withBit rowOf lowest countTo every some listed marked marksFit marksOf lineAt implies obeysAt obeys checkRecords checkPack checkQuestion
     littleEndian wordBytes lineIn keepsIn linesOf usable free sameFact stepsOf concluded known goodOver goodAt lowestBad checkSteps checkYes rowAt forbidden lowestForbidden lowestBroken refutes checkWorld checkRows checkNo loop said
     holds fresh attempt runs atXYZ atXY atX atRange atRecord pass notFree finishedFrom atEnd goalAtEnd upTo ourSteps ourRows goalHeld yesBytes noBytes without allIn moduleIn sameName
     bothSides reachPass reached moduleOf spared picked printed

@@ -121,6 +121,19 @@ valve = recordOf 3 0 0 2 ++ recordOf 3 2 1 3 ++ recordOf 6 0 1 0 ++ recordOf 4 0
 unfoldable pub turned : List ℕ
 turned = recordOf 3 0 0 2 ++ recordOf 3 2 1 3 ++ recordOf 6 1 0 0 ++ recordOf 4 0 3 1 ++ recordOf 1 0 4 0 ++ recordOf 1 4 1 0
 
+-- every thing linked to itself by role 0, and what is so linked to a thing of 0 is in 1
+unfoldable pub itself : List ℕ
+itself = recordOf 7 0 0 0 ++ recordOf 4 0 0 1
+
+-- document 003's anatomy, in the valve pack's names, and 4 heart structure: everything is part of itself, what is part of a
+-- heart is a heart structure, and what is sited in a part is sited in the whole
+unfoldable pub anatomy : List ℕ
+anatomy = recordOf 3 0 0 2 ++ recordOf 3 2 1 3 ++ recordOf 6 0 1 0 ++ recordOf 7 1 0 0 ++ recordOf 4 1 3 4 ++ recordOf 4 0 3 1
+
+-- its steps up to those of record 4
+unfoldable pub parts : List ℕ
+parts = step 0 0 0 0 ++ step 1 2 0 0 ++ step 2 0 2 3 ++ step 3 0 0 0 ++ step 3 1 0 0 ++ step 3 2 0 0 ++ step 3 3 0 0 ++ step 3 4 0 0 ++ step 4 2 3 0 ++ step 4 3 3 0
+
 -- C3's sheet from its second step on
 unfoldable pub later : List ℕ
 later = step 1 2 0 0 ++ step 2 0 2 3 ++ step 3 0 3 0
@@ -188,23 +201,33 @@ questionCases =
     (step 1 3 0 0 ++ step 4 0 0 0 ++ step 4 3 0 0 ++ step 7 3 0 0 ++ step 8 1 0 0 ++ step 0 1 0 3 ++ step 0 1 3 1 ++ step 6 3 1 0 ++ step 6 3 1 1
     ++ step 6 3 1 3 ++ step 5 3 3 0 ++ step 8 3 0 0 ++ step 0 3 0 3 ++ step 0 3 3 1 ++ step 6 0 3 0 ++ step 6 0 3 1 ++ step 6 0 3 3 ++ step 5 0 3 0)
     6 0b111110001) 8 0b111110111
+    -- kind 7 links every X to itself from nothing; without it the goal does not follow
+    ∷ Ask (ask itself 0b11 2 1 0 1) (Follows 3 (step 0 0 0 0 ++ step 0 1 0 0 ++ step 1 0 0 0) 2 0b11) 2 0b11
+    ∷ Ask (ask itself 0b10 2 1 0 1) (Not 4 (rows (0x01 ∷ 0x02 ∷ 0 ∷ 0 ∷ []))) 0 0b00
+    -- it is in every module, though no other record names its role
+    ∷ Ask (ask (recordOf 1 0 1 0 ++ recordOf 7 0 0 0) 0b11 2 1 0 1) (Follows 1 (step 0 0 0 0) 1 0b01) 2 0b11
+    -- what is sited in a part is sited in the whole; a whole counts among its own parts, and without kind 7 it does not
+    ∷ Ask (ask anatomy 0b111111 5 2 0 1) (Follows 11 (parts ++ step 5 0 3 0) 4 0b100111) 6 0b111111
+    ∷ Ask (ask anatomy 0b111111 5 2 3 4) (Follows 10 parts 2 0b011000) 2 0b011000
+    ∷ Ask (ask anatomy 0b110111 5 2 3 4) (Not 15 (rows (0x03 ∷ 0x02 ∷ 0x14 ∷ 0x08 ∷ 0x10 ∷ 0x0c ∷ 0 ∷ 0 ∷ 0 ∷ 0 ∷ 0 ∷ 0 ∷ 0x08 ∷ 0 ∷ 0 ∷ []))) 0 0b000000
     ∷ []
 
--- RECORDS, with n = 2 and m = 3: a byte at its limit, c in kinds 1 and 5, or another kind
+-- RECORDS, with n = 2 and m = 3: a byte at its limit, c in kinds 1 and 5, b or c in kind 7, or another kind
 unfoldable pub brokenRecords : List (List ℕ)
 brokenRecords =
-    recordOf 0 0 0 0 ∷ recordOf 7 0 0 0
+    recordOf 0 0 0 0 ∷ recordOf 8 0 0 0
     ∷ recordOf 1 2 0 0 ∷ recordOf 1 0 2 0 ∷ recordOf 1 0 0 1
     ∷ recordOf 2 2 0 0 ∷ recordOf 2 0 2 0 ∷ recordOf 2 0 0 2
     ∷ recordOf 3 2 0 0 ∷ recordOf 3 0 3 0 ∷ recordOf 3 0 0 2
     ∷ recordOf 4 3 0 0 ∷ recordOf 4 0 2 0 ∷ recordOf 4 0 0 2
     ∷ recordOf 5 3 0 0 ∷ recordOf 5 0 3 0 ∷ recordOf 5 0 0 1
     ∷ recordOf 6 3 0 0 ∷ recordOf 6 0 3 0 ∷ recordOf 6 0 0 3
+    ∷ recordOf 7 3 0 0 ∷ recordOf 7 0 1 0 ∷ recordOf 7 0 0 1
     ∷ []
 
 unfoldable pub recordCases : List Case
 recordCases =
-    CheckPack 2 3 (recordOf 1 1 1 0 ++ recordOf 2 1 1 1 ++ recordOf 3 1 2 1 ++ recordOf 4 2 1 1 ++ recordOf 5 2 2 0 ++ recordOf 6 2 2 2) 0 6
+    CheckPack 2 3 (recordOf 1 1 1 0 ++ recordOf 2 1 1 1 ++ recordOf 3 1 2 1 ++ recordOf 4 2 1 1 ++ recordOf 5 2 2 0 ++ recordOf 6 2 2 2 ++ recordOf 7 2 0 0) 0 7
     ∷ map (λ r. CheckPack 2 3 r 3 0) brokenRecords
 
 -- SHEETS at which an error shows
@@ -227,6 +250,11 @@ sheetCases =
     ∷ CheckYes (ask (recordOf 1 0 1 0) 0b1 2 0 0 1) (step 0 0 1 0) 10 0 10
     ∷ CheckYes (ask (recordOf 1 0 1 0) 0b1 2 0 0 1) (step 0 0 0 1) 10 0 10
     ∷ CheckYes (ask (recordOf 1 0 1 0) 0b1 2 0 0 1) (0 ∷ 1 ∷ 0 ∷ 0 ∷ 0 ∷ 0 ∷ 0 ∷ 0 ∷ []) 10 0 10
+    -- so are Y and Z of a step of kind 7, and its X is below n
+    ∷ CheckYes (ask itself 0b11 2 1 0 1) (step 0 0 0 0 ++ step 1 0 0 0) 0 0 0
+    ∷ CheckYes (ask itself 0b11 2 1 0 1) (step 0 0 1 0 ++ step 1 0 0 0) 10 0 10
+    ∷ CheckYes (ask itself 0b11 2 1 0 1) (step 0 0 0 1 ++ step 1 0 0 0) 10 0 10
+    ∷ CheckYes (ask itself 0b11 2 1 0 1) (step 0 0 0 0 ++ step 0 2 0 0) 10 1 26
     -- a step at a record that is not marked; no step at all
     ∷ CheckYes (ask (recordOf 1 0 1 0) 0b0 2 0 0 1) (step 0 0 0 0) 10 0 10
     ∷ CheckYes (ask (recordOf 1 0 1 0) 0b1 2 0 0 1) [] 13 0 13
@@ -234,6 +262,10 @@ sheetCases =
     ∷ CheckNo (ask [] 0b0 2 0 0 1) (rows (0x01 ∷ 0x06 ∷ [])) 11 1 27
     ∷ CheckNo (ask [] 0b0 2 1 0 1) (rows (0x01 ∷ 0x02 ∷ [])) 11 1 27
     ∷ CheckNo (ask [] 0b0 2 0 1 0) (row 0x02) 0 0 0
+    -- kind 7 needs a link to itself from each thing
+    ∷ CheckNo (ask (recordOf 7 0 0 0) 0b1 2 1 0 1) (rows (0x01 ∷ 0x02 ∷ 0x01 ∷ 0x02 ∷ [])) 0 0 0
+    ∷ CheckNo (ask (recordOf 7 0 0 0) 0b1 2 1 0 1) (rows (0x01 ∷ 0x02 ∷ 0x01 ∷ 0x01 ∷ [])) 12 0 12
+    ∷ CheckNo (ask (recordOf 7 0 0 0) 0b1 2 1 0 1) (rows (0x01 ∷ 0x02 ∷ 0x02 ∷ 0x02 ∷ [])) 12 0 12
     -- BROKEN at 1; no row at all
     ∷ CheckNo (ask (recordOf 1 0 0 0 ++ recordOf 1 0 1 0) 0b11 2 0 0 1) (row 0x01) 12 1 28
     ∷ CheckNo (ask [] 0b0 2 0 0 1) [] 9 0 9

@@ -16,7 +16,7 @@ use Rattle.pack.specs.declared.check.Refusal.{Refusal}
 use Rattle.pack.specs.declared.check.Checked.{Checked}
 use Rattle.pack.specs.declared.check.Checked.the-variants as checked
 use Rattle.pack.specs.declared.line.Line.{Line}
-use Rattle.pack.specs.declared.line.Line.the-variants.{Under, BothUnder, UnderSome, SomeUnder, RoleUnder, ChainUnder, NoLine}
+use Rattle.pack.specs.declared.line.Line.the-variants.{Under, BothUnder, UnderSome, SomeUnder, RoleUnder, ChainUnder, ToItself, NoLine}
 use Rattle.pack.specs.World.{World, Is, Obeys, Follows, lineAt}
 use Rattle.pack.specs.Computed.{obeys, checkQuestion}
 use Rattle.pack.specs.Record.{linesOf, ValidLine, Valid}
@@ -77,6 +77,7 @@ module _ (n m k : ℕ) (sheet : List ℕ) (few : k ≤ 64) (whole : length sheet
   line-fits h e (SomeUnder r a b) v = (role-fits e r (v .0), omega arith, omega arith)
   line-fits h e (RoleUnder r s) v = (role-fits e r (v .0), role-fits e s (v .1))
   line-fits h e (ChainUnder r s t) v = (role-fits e r (v .0), role-fits e s (v .1), role-fits e t (v .2))
+  line-fits h e (ToItself r) v = role-fits e r v
   line-fits h e NoLine v = tt
 
   pub lines-fit : n ≤ 64 → lowestForbidden n m k sheet ≡ rowsOf m k → (ls : List Line) → Valid n m ls → LinesFit k sheet ls

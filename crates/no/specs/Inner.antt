@@ -7,7 +7,7 @@ use lib.Dec.{ltb}
 use lib.ListN.{length}
 use Rattle.bits.specs.Bit.{has}
 use Rattle.pack.specs.declared.line.Line.{Line}
-use Rattle.pack.specs.declared.line.Line.the-variants.{Under, BothUnder, UnderSome, SomeUnder, RoleUnder, ChainUnder, NoLine}
+use Rattle.pack.specs.declared.line.Line.the-variants.{Under, BothUnder, UnderSome, SomeUnder, RoleUnder, ChainUnder, ToItself, NoLine}
 use Rattle.pack.specs.World.{World, lineAt}
 use Rattle.no.specs.NoSheet.{rowAt}
 
@@ -23,6 +23,7 @@ ColumnFor w (UnderSome a r b) word = ThingsColumn w b word
 ColumnFor w (SomeUnder r a b) word = ThingsColumn w a word
 ColumnFor w (RoleUnder r s) word = Unit {0}
 ColumnFor w (ChainUnder r s t) word = Unit {0}
+ColumnFor w (ToItself r) word = Unit {0}
 ColumnFor w NoLine word = Unit {0}
 
 -- the concept rows of k things are in the sheet
@@ -43,6 +44,7 @@ LineFits k sheet (UnderSome a r b) = (a < 64) × RoleFits k sheet r × (b < 64)
 LineFits k sheet (SomeUnder r a b) = RoleFits k sheet r × (a < 64) × (b < 64)
 LineFits k sheet (RoleUnder r s) = RoleFits k sheet r × RoleFits k sheet s
 LineFits k sheet (ChainUnder r s t) = RoleFits k sheet r × RoleFits k sheet s × RoleFits k sheet t
+LineFits k sheet (ToItself r) = RoleFits k sheet r
 LineFits k sheet NoLine = Unit {0}
 
 -- every line of the pack does

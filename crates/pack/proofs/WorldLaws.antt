@@ -6,7 +6,7 @@ use Rattle.bits.specs.Sets.{every, some}
 use Rattle.bits.proofs.Truth.{both-true, true-both, never}
 use Rattle.bits.proofs.SetLaws.{every-true, true-every, some-true, true-some}
 use Rattle.pack.specs.declared.line.Line.{Line}
-use Rattle.pack.specs.declared.line.Line.the-variants.{Under, BothUnder, UnderSome, SomeUnder, RoleUnder, ChainUnder, NoLine}
+use Rattle.pack.specs.declared.line.Line.the-variants.{Under, BothUnder, UnderSome, SomeUnder, RoleUnder, ChainUnder, ToItself, NoLine}
 use Rattle.pack.specs.World.{World, Is, To, ObeysLine}
 use Rattle.pack.specs.Computed.{implies, obeysAt, obeys}
 
@@ -53,6 +53,7 @@ module _ (w : World) where
       (implies-true (w .linked x r y) (every (w .things) (λ z. implies (w .linked y s z) (w .linked x t z)))
       (every-true (λ y. implies (w .linked x r y) (every (w .things) (λ z. implies (w .linked y s z) (w .linked x t z)))) (w .things)
       (every-true (obeysAt w (ChainUnder r s t)) (w .things) h x k) y l) p) z j) q
+  obeys-line (ToItself r) h = every-true (obeysAt w (ToItself r)) (w .things) h
   obeys-line NoLine h = tt
 
   -- and of every such world
@@ -76,4 +77,5 @@ module _ (w : World) where
       (λ x k. true-every (λ y. implies (w .linked x r y) (every (w .things) (λ z. implies (w .linked y s z) (w .linked x t z)))) (w .things)
       (λ y l. true-implies (w .linked x r y) (every (w .things) (λ z. implies (w .linked y s z) (w .linked x t z)))
       (λ p. true-every (λ z. implies (w .linked y s z) (w .linked x t z)) (w .things) (λ z j. true-implies (w .linked y s z) (w .linked x t z) (o x y z k l j p)))))
+  line-obeys (ToItself r) o = true-every (obeysAt w (ToItself r)) (w .things) o
   line-obeys NoLine o = true-every (obeysAt w NoLine) (w .things) (λ x k. refl)

@@ -11,7 +11,7 @@ use Rattle.pack.specs.declared.check.Refusal.the-variants.{Sizes, Pack, 
 use Rattle.pack.specs.declared.check.Checked.{Checked}
 use Rattle.pack.specs.declared.check.Checked.the-variants.{Refused, Count}
 use Rattle.pack.specs.declared.line.Line.{Line}
-use Rattle.pack.specs.declared.line.Line.the-variants.{Under, BothUnder, UnderSome, SomeUnder, RoleUnder, ChainUnder, NoLine}
+use Rattle.pack.specs.declared.line.Line.the-variants.{Under, BothUnder, UnderSome, SomeUnder, RoleUnder, ChainUnder, ToItself, NoLine}
 use Rattle.pack.specs.Record.{keepsAt, recordCount}
 use Rattle.pack.specs.Pack.{sizesFit, lengthFits}
 use Rattle.pack.specs.Question.{goalFits}
@@ -68,6 +68,7 @@ obeysAt w (UnderSome a r b) x = implies (w .isIn x a) (some (w .things) (λ y. w
 obeysAt w (SomeUnder r a b) x = implies (some (w .things) (λ y. w .linked x r y && w .isIn y a)) (w .isIn x b)
 obeysAt w (RoleUnder r s) x = every (w .things) (λ y. implies (w .linked x r y) (w .linked x s y))
 obeysAt w (ChainUnder r s t) x = every (w .things) (λ y. implies (w .linked x r y) (every (w .things) (λ z. implies (w .linked y s z) (w .linked x t z))))
+obeysAt w (ToItself r) x = w .linked x r x
 obeysAt w NoLine x = true
 
 unfoldable pub obeys : World → Line → Bool

@@ -6,7 +6,7 @@ use lib.Dec.{eqb, ltb}
 use lib.ListN.{length, getD}
 use Rattle.bits.specs.Lists.{listed}
 use Rattle.pack.specs.declared.line.Line.{Line}
-use Rattle.pack.specs.declared.line.Line.the-variants.{Under, BothUnder, UnderSome, SomeUnder, RoleUnder, ChainUnder, NoLine}
+use Rattle.pack.specs.declared.line.Line.the-variants.{Under, BothUnder, UnderSome, SomeUnder, RoleUnder, ChainUnder, ToItself, NoLine}
 use Rattle.pack.specs.Bytes.{part}
 use Rattle.pack.specs.World.{lineAt}
 
@@ -19,9 +19,10 @@ lineOf kind a b c =
     (cond (eqb kind 4) (SomeUnder a b c)
     (cond (eqb kind 5) (RoleUnder a b)
     (cond (eqb kind 6) (ChainUnder a b c)
-    NoLine)))))
+    (cond (eqb kind 7) (ToItself a)
+    NoLine))))))
 
--- the rules of the fields: concepts below n, roles below m, and c zero in kinds 1 and 5
+-- the rules of the fields: concepts below n, roles below m, c zero in kinds 1 and 5, and b and c zero in kind 7
 abbrev pub keeps : ℕ → ℕ → ℕ → ℕ → ℕ → ℕ → Bool
 keeps n m kind a b c =
     cond (eqb kind 1) (ltb a n && ltb b n && eqb c 0)
@@ -30,7 +31,8 @@ keeps n m kind a b c =
     (cond (eqb kind 4) (ltb a m && ltb b n && ltb c n)
     (cond (eqb kind 5) (ltb a m && ltb b m && eqb c 0)
     (cond (eqb kind 6) (ltb a m && ltb b m && ltb c m)
-    false)))))
+    (cond (eqb kind 7) (ltb a m && eqb b 0 && eqb c 0)
+    false))))))
 
 -- the line in an 8-byte part, and whether the part keeps the rules
 unfoldable pub lineIn : List ℕ → Line
@@ -61,6 +63,7 @@ ValidLine n m (UnderSome a r b) = (a < n) × (r < m) × (b < n)
 ValidLine n m (SomeUnder r a b) = (r < m) × (a < n) × (b < n)
 ValidLine n m (RoleUnder r s) = (r < m) × (s < m)
 ValidLine n m (ChainUnder r s t) = (r < m) × (s < m) × (t < m)
+ValidLine n m (ToItself r) = r < m
 ValidLine n m NoLine = ⊥
 
 abbrev pub Valid : ℕ → ℕ → List Line → Type 0

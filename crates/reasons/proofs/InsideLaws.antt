@@ -9,7 +9,7 @@ use lib.ListN.{length}
 use borrow.Author.Tests.{eqb-true}
 use Rattle.bits.proofs.Truth.{both-true, true-both, never}
 use Rattle.pack.specs.declared.line.Line.{Line}
-use Rattle.pack.specs.declared.line.Line.the-variants.{Under, BothUnder, UnderSome, SomeUnder, RoleUnder, ChainUnder, NoLine}
+use Rattle.pack.specs.declared.line.Line.the-variants.{Under, BothUnder, UnderSome, SomeUnder, RoleUnder, ChainUnder, ToItself, NoLine}
 use Rattle.pack.specs.declared.line.Fact.{Fact}
 use Rattle.pack.specs.declared.line.Fact.the-variants.{In, Link}
 use Rattle.pack.specs.World.{Follows, lineAt}
@@ -60,6 +60,7 @@ module _ (R : Name → Bool) where
   step-said (ChainUnder s t u) x y z k h₁ h₂ =
       let p = h₂ (h₁ .1) in
       (all-both (role s) (role t) (h₁ .0) (p .0), h₁ .1, λ r. (head (role u) [] r .0, p .1))
+  step-said (ToItself s) x y z k h₁ h₂ = (refl, k, λ r. (head (role s) [] r .0, k))
   step-said NoLine x y z k h₁ h₂ = (refl, k, λ r. h₁)
 
 abouts : (l : Line) (x y z : ℕ) → (about (ruleOf l x y z .one) ≡ x) × (about (ruleOf l x y z .gives) ≡ x)
@@ -69,6 +70,7 @@ abouts (UnderSome a r b) x y z = (refl, refl)
 abouts (SomeUnder r a b) x y z = (refl, refl)
 abouts (RoleUnder r s) x y z = (refl, refl)
 abouts (ChainUnder r s t) x y z = (refl, refl)
+abouts (ToItself r) x y z = (refl, refl)
 abouts NoLine x y z = (refl, refl)
 
 -- R goes with the marked lines

@@ -10,12 +10,10 @@ use Rattle.bits.proofs.Truth.{never}
 use Rattle.marks.specs.Marks.{marked, marksOf}
 use Rattle.marks.proofs.WordLaws.{marked-of, marked-past, marks-alike}
 use Rattle.pack.specs.declared.line.Line.{Line}
-use Rattle.pack.specs.declared.line.Line.the-variants.{Under, BothUnder, UnderSome, SomeUnder, RoleUnder, ChainUnder, NoLine}
 use Rattle.pack.specs.Question.{counted}
-use Rattle.pack.specs.Record.{linesOf, ValidLine, Valid}
-use Rattle.pack.specs.World.{lineAt}
+use Rattle.pack.specs.Record.{linesOf, Valid}
 use Rattle.pack.proofs.QuestionLaws.{Asked, asked, asked-valid}
-use Rattle.pack.proofs.RecordLaws.{lines-length}
+use Rattle.pack.proofs.RecordLaws.{lines-length, valid-most}
 use Rattle.reasons.specs.Reach.{Name, moduleIn, IsModule}
 use Rattle.reasons.specs.Computed.{reached, moduleOf, moduleMarks}
 use Rattle.reasons.specs.Names.{AdmittedOf}
@@ -27,16 +25,6 @@ module _ (ls : List Line) (S : ℕ → Bool) (R : Name → Bool) where
   unfolding moduleIn
   outside-unmarked i h = rw h
 
--- a line within the sizes is within the largest ones
-line-most : (n m : ℕ) → n ≤ 64 → m ≤ 8 → (l : Line) → ValidLine n m l → ValidLine 64 8 l
-line-most n m h g (Under a b) v = (omega arith, omega arith)
-line-most n m h g (BothUnder a₁ a₂ b) v = (omega arith, omega arith, omega arith)
-line-most n m h g (UnderSome a r b) v = (omega arith, omega arith, omega arith)
-line-most n m h g (SomeUnder r a b) v = (omega arith, omega arith, omega arith)
-line-most n m h g (RoleUnder r s) v = (omega arith, omega arith)
-line-most n m h g (ChainUnder r s t) v = (omega arith, omega arith, omega arith)
-line-most n m h g NoLine v = v
-
 -- of a question about a that is taken
 module _ (n m : ℕ) (s ws : List ℕ) (a : ℕ) (taken : AdmittedOf n m s ws a) where
   pub asked-of : Asked n m s ws a (taken .0) (taken .1 .0)
@@ -46,7 +34,7 @@ module _ (n m : ℕ) (s ws : List ℕ) (a : ℕ) (taken : AdmittedOf n m s ws a)
   lines-right = asked-valid n m s ws a (taken .0) (taken .1 .1)
 
   pub lines-widest : Valid 64 8 (linesOf s)
-  lines-widest i h = line-most n m (asked-of .pack .n-most) (asked-of .pack .m-most) (lineAt (linesOf s) i) (lines-right i h)
+  lines-widest = valid-most (asked-of .pack .n-most) (asked-of .pack .m-most) (linesOf s) lines-right
 
   -- no place past the records counts
   pub none-past : (i : ℕ) → length (linesOf s) ≤ i → counted s ws i ≡ false

@@ -10,7 +10,7 @@ use Rattle.bits.specs.Sets.{countTo}
 use Rattle.bits.proofs.Truth.{both-true, true-both, never, alike, turn}
 use Rattle.bits.proofs.SetLaws.{count-le, count-fewer, count-less}
 use Rattle.pack.specs.declared.line.Line.{Line}
-use Rattle.pack.specs.declared.line.Line.the-variants.{Under, BothUnder, UnderSome, SomeUnder, RoleUnder, ChainUnder, NoLine}
+use Rattle.pack.specs.declared.line.Line.the-variants.{Under, BothUnder, UnderSome, SomeUnder, RoleUnder, ChainUnder, ToItself, NoLine}
 use Rattle.pack.specs.World.{lineAt}
 use Rattle.pack.specs.Record.{ValidLine, Valid}
 use Rattle.passes.specs.Loop.{gate}
@@ -41,6 +41,7 @@ left-two (UnderSome a r b) = omega arith
 left-two (SomeUnder r a b) = omega arith
 left-two (RoleUnder r s) = omega arith
 left-two (ChainUnder r s t) = omega arith
+left-two (ToItself r) = omega arith
 left-two NoLine = omega arith
 
 right-two : (l : Line) → length (rightNames l) ≤ 2
@@ -50,6 +51,7 @@ right-two (UnderSome a r b) = omega arith
 right-two (SomeUnder r a b) = omega arith
 right-two (RoleUnder r s) = omega arith
 right-two (ChainUnder r s t) = omega arith
+right-two (ToItself r) = omega arith
 right-two NoLine = omega arith
 
 -- so all of them are in R where the two that nameAt gives are
@@ -117,6 +119,8 @@ right-named n m a h (RoleUnder r s) v zero = v .1
 right-named n m a h (RoleUnder r s) v (suc j) = h
 right-named n m a h (ChainUnder r s t) v zero = v .2
 right-named n m a h (ChainUnder r s t) v (suc j) = h
+right-named n m a h (ToItself r) v zero = v
+right-named n m a h (ToItself r) v (suc j) = h
 right-named n m a h NoLine v j = absurd v
 
 module _ (ls : List Line) (S : ℕ → Bool) (a : ℕ) where
@@ -227,3 +231,10 @@ module-one ls S a M M′ p q i l =
     p .places i l
     ∙ ap (λ (t : Bool). S i && t) (all-same (p .names) (q .names) (reached-one ls S a (p .names) (q .names) (p .reached) (q .reached)) (leftNames (lineAt ls i)))
     ∙ sym (q .places i l)
+
+-- A MARKED LINE OF KIND 7 IS IN EVERY MODULE, and its role is reached from the start: its left side has no names
+pub itself-inside : (ls : List Line) (S : ℕ → Bool) (a : ℕ) (M : ℕ → Bool) (p : IsModule ls S a M) (i r : ℕ) → i < length ls → S i ≡ true → lineAt ls i ≡ ToItself r
+    → (M i ≡ true) × (p .names (role r) ≡ true)
+unfolding moduleIn allIn
+itself-inside ls S a M p i r l h e =
+    (p .places i l ∙ rw (h, e), both-true (p .names (role r)) true (rw e at (p .reached .reaches .goes i l h (rw e))) .0)

@@ -5,7 +5,7 @@ use mathlib.Core.List.{List, [], _∷_}
 use Prim.Native.Nat.{ℕ, _<_}
 use lib.ListN.{length}
 use Rattle.pack.specs.declared.line.Line.{Line}
-use Rattle.pack.specs.declared.line.Line.the-variants.{Under, BothUnder, UnderSome, SomeUnder, RoleUnder, ChainUnder, NoLine}
+use Rattle.pack.specs.declared.line.Line.the-variants.{Under, BothUnder, UnderSome, SomeUnder, RoleUnder, ChainUnder, ToItself, NoLine}
 use Rattle.pack.specs.World.{lineAt}
 
 -- a name of a question: a concept or a role, by its number
@@ -21,6 +21,7 @@ leftNames (UnderSome a r b) = concept a ∷ []
 leftNames (SomeUnder r a b) = role r ∷ concept a ∷ []
 leftNames (RoleUnder r s) = role r ∷ []
 leftNames (ChainUnder r s t) = role r ∷ role s ∷ []
+leftNames (ToItself r) = []
 leftNames NoLine = []
 
 abbrev pub rightNames : Line → List Name
@@ -30,6 +31,7 @@ rightNames (UnderSome a r b) = role r ∷ concept b ∷ []
 rightNames (SomeUnder r a b) = concept b ∷ []
 rightNames (RoleUnder r s) = role s ∷ []
 rightNames (ChainUnder r s t) = role t ∷ []
+rightNames (ToItself r) = role r ∷ []
 rightNames NoLine = []
 
 -- all names of a list are in R

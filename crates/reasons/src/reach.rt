@@ -57,6 +57,7 @@ fn waits_for(l: Line, names: Names) -> usize
         Line::SomeUnder { r, a, b: _ } => unless_role(names, r, unless_concept(names, a, 128)),
         Line::RoleUnder { r, s: _ } => unless_role(names, r, 128),
         Line::ChainUnder { r, s, t: _ } => unless_role(names, r, unless_role(names, s, 128)),
+        Line::ToItself { r: _ } => 128,
         Line::NoLine => 128,
     }
 }
@@ -94,6 +95,7 @@ fn with_right(l: Line, names: Names) -> Names
         Line::SomeUnder { r: _, a: _, b } => with_concept(names, b),
         Line::RoleUnder { r: _, s } => with_role(names, s),
         Line::ChainUnder { r: _, s: _, t } => with_role(names, t),
+        Line::ToItself { r } => with_role(names, r),
         Line::NoLine => names,
     }
 }

@@ -10,6 +10,7 @@ use borrow.Author.Tests.{ltb-true}
 use Rattle.bits.proofs.Truth.{both-true}
 use Rattle.bits.proofs.Promises.{no-second}
 use Rattle.pack.specs.declared.line.Line.{Line}
+use Rattle.pack.specs.declared.line.Line.the-variants.{ToItself}
 use Rattle.pack.specs.declared.line.Fact.{Fact}
 use Rattle.pack.specs.declared.line.Rule.{Rule}
 use Rattle.pack.specs.declared.line.Step.{Step}
@@ -20,9 +21,10 @@ use Rattle.pack.specs.Rules.{ruleOf, ruleAt, premiseOneOf, premiseTwoOf, conclu
 use Rattle.pack.proofs.RecordLaws.{lines-length, lines-at}
 use Rattle.pack.proofs.RuleLaws.{usable-is}
 use Rattle.pack.proofs.Ranges.{step-range}
+use Rattle.pack.proofs.Soundness.{free-self}
 use Rattle.tables.specs.Tables.{inTable, addedConcepts, addedLinks}
 use Rattle.tables.proofs.TableLaws.{in-table}
-use Rattle.yes.specs.YesSheet.{stepIn, goodOver, premisesKnown}
+use Rattle.yes.specs.YesSheet.{stepIn, known, goodOver, premisesKnown}
 
 -- THE TESTS OF THE CODE: the place counts, and the numbers and the premises are right for the rule of the line l there
 module _ (pack p : List ℕ) {s : Step} {l : Line} (e : s ≡ stepIn p) (f : l ≡ lineAtPlace pack (s .place)) where
@@ -65,6 +67,11 @@ module _ (ls : List Line) (S : ℕ → Bool) (n : ℕ) where
       let g = both-true (usable ls S n s) (premisesKnown (ruleAt ls s) K) h in
       let k = both-true (K (premiseOneOf ls s)) (K (premiseTwoOf ls s)) (g .1) in
       record { may = g .0; one = k .0; two = k .1 }
+
+  -- A STEP OF KIND 7 NEEDS NOTHING before it: where it may be taken it is good
+  pub itself-good : (r : ℕ) (ss : List Step) (s : Step) → lineAt ls (s .place) ≡ ToItself r → usable ls S n s ≡ true → goodOver ls S n (known ls n ss) s ≡ true
+  unfolding goodOver known
+  itself-good r ss s e u = rw (u, e, premisesKnown, free-self n (s .x) (usable-is u .fitsX))
 
 -- THE CONCLUSION OF A USABLE STEP has a place in the tables
 pub conclusion-in-table : (n m : ℕ) → n ≤ 64 → m ≤ 8 → (ls : List Line) (S : ℕ → Bool) (s : Step) → Valid n m ls → usable ls S n s ≡ true → inTable (conclusionOf ls s) ≡ true

@@ -2,8 +2,10 @@
 -- (`meets-things`, `inside-things`, `chain-things`).
 use mathlib.Core.Path.{ap, _∙_}
 use mathlib.Core.Bool.{Bool}
+use native.Mathlib.Omega.{arith}
 use borrow.Author.Needs.{needs}
 use Rattle.bits.specs.Bit.{has}
+use Rattle.bits.proofs.BitLaws.{low}
 use Rattle.pack.specs.Computed.{implies, obeysAt}
 use Rattle.no.specs.NoSheet.{rowAt}
 use Rattle.no.proofs.WorldRows.{meets-things, inside-things, chain-things}
@@ -38,6 +40,9 @@ chain-at-requires : tie.Need-chain-at-requires
 chain-at-requires c κs =
     let fits = rw (c .before .l6 .given .1) at (c .before .before .before .before .pre .1) in
     (c .before .before .before .before .pre .0, fits .0, fits .1, fits .2, c .before .before .before .before .pre .3)
+
+link-row-requires-5 : tie.Need-link-row-requires-5
+link-row-requires-5 c κs = (c .before .before .before .before .pre .0, rw (c .before .l7 .given .1) at (c .before .before .before .before .pre .1), c .before .before .before .before .pre .3)
 
 returns : tie.Need-returns
 unfolding obeysAt
@@ -83,7 +88,14 @@ returns-6 c =
 
 returns-7 : tie.Need-returns-7
 unfolding obeysAt
-returns-7 c = rw (c .enum-told .given .1)
+returns-7 c =
+    let a = c .before .before .before .before .before .before .args in
+    let pre = c .before .before .before .before .before .before .pre in
+    rw (c .before .before .before .l7 .given .1) (rw (c .before .link-row5 .ensures) at (low _ (a .x) (omega (arith, pre .0 .few, pre .3)) (c .test-bit .ensures)))
+
+returns-8 : tie.Need-returns-8
+unfolding obeysAt
+returns-8 c = rw (c .enum-told .given .1)
 
 pub thing-obeys-spec : {M : Type 1} → statement M
 thing-obeys-spec =
@@ -110,10 +122,14 @@ thing-obeys-spec =
     (λ c. search needs)
     chain-at-requires
     (λ c. search needs)
+    link-row-requires-5
+    (λ c κs. search needs)
+    (λ c. search needs)
     returns
     returns-2
     returns-3
     returns-4
     returns-5
     returns-6
-    returns-7)
+    returns-7
+    returns-8)

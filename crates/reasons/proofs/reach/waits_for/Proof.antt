@@ -60,6 +60,10 @@ returns-7 : tie.Need-returns-7
 unfolding waitsFor
 returns-7 c = rw (c .enum-told .given .1)
 
+returns-8 : tie.Need-returns-8
+unfolding waitsFor
+returns-8 c = rw (c .enum-told2 .given .1)
+
 pub waits-for-spec : {M : Type 1} → statement M
 waits-for-spec =
     tie.close
@@ -80,10 +84,12 @@ waits-for-spec =
     unless-role-requires-3
     unless-role-requires-4
     (λ c. search needs)
+    (λ c. search needs)
     returns
     returns-2
     returns-3
     returns-4
     returns-5
     returns-6
-    returns-7)
+    returns-7
+    returns-8)

@@ -25,6 +25,9 @@ with-role-requires-2 c κs = let v = rw (c .before .l5 .given .1) at (c .before 
 with-role-requires-3 : tie.Need-with-role-requires-3
 with-role-requires-3 c κs = let v = rw (c .before .l6 .given .1) at (c .before .before .before .pre) in omega arith
 
+with-role-requires-4 : tie.Need-with-role-requires-4
+with-role-requires-4 c κs = let v = rw (c .before .l7 .given .1) at (c .before .before .before .pre) in omega arith
+
 returns : tie.Need-returns
 returns c = rw (c .before .before .l .given .1) (c .with-concept .ensures)
 
@@ -42,6 +45,9 @@ returns-5 c = rw (c .before .before .l5 .given .1) (c .with-role2 .ensures)
 
 returns-6 : tie.Need-returns-6
 returns-6 c = rw (c .before .before .l6 .given .1) (c .with-role3 .ensures)
+
+returns-7 : tie.Need-returns-7
+returns-7 c = rw (c .before .before .l7 .given .1) (c .with-role4 .ensures)
 
 pub with-right-spec : {M : Type 1} → statement M
 with-right-spec =
@@ -61,10 +67,13 @@ with-right-spec =
     (λ c. search needs)
     with-role-requires-3
     (λ c. search needs)
+    with-role-requires-4
+    (λ c. search needs)
     returns
     returns-2
     returns-3
     returns-4
     returns-5
     returns-6
+    returns-7
     (λ c. search needs))
