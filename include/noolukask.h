@@ -96,10 +96,10 @@ uint64_t noolukask_write_sheet(uint64_t n, uint64_t m,
                                uint8_t *sheet, size_t sheet_len);
 
 /* The module for concept a, by names; concepts and roles are names, and those before
- * "under" are a record's left side, of which kind 7 has none. Take the smallest set of
- * names that holds a and, with all left-side names of a marked record, its right-side
- * names: the module is the marked records whose left-side names all lie in it, every
- * marked record of kind 7 among them. It holds every set of marked records from which
+ * "under" are a record's left-side names; kind 7 has none. Take the smallest set of names
+ * that holds a and, with all left-side names of a marked record, its right-side names:
+ * the module is the marked records whose left-side names all lie in it, every marked
+ * record of kind 7 among them. It holds every set of marked records from which
  * "a under .." follows and that can lose no record, and may hold more.
  * Numbers 1 to 5, MARKS also for out that is not 128 bytes; else all 128 bytes of out
  * are set to the marks of the module, as marks has them, and the value is the number of
@@ -138,7 +138,7 @@ uint64_t noolukask_printed_set(uint64_t n, uint64_t m,
  *   1  X in A gives X in B              4  X r Y and Y in A give X in B
  *   2  X in A1 and A2 gives X in B      5  X r Y gives X s Y
  *   3  X in A gives X r B               6  X r Y and Y s Z give X t Z
- *                                       7  nothing is needed for X r X
+ *                                       7  X r X, from nothing
  * Accepted when every step is good and the goal is free or concluded.
  * Gives numbers 1 to 5, 9, 10 and 13. */
 uint64_t noolukask_check_yes(uint64_t n, uint64_t m,

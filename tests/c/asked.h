@@ -120,7 +120,7 @@ static const uint8_t both_marked[MARKS_LEN] = { 0x03 }, second_marked[MARKS_LEN]
 static const uint8_t kind_7_steps[24] = {
     0, 0, 0, 0, 0, 0, 0, 0, 0, 0, 1, 0, 0, 0, 0, 0, 1, 0, 0, 0, 0, 0, 0, 0,
 };
-/* What the world of our no sheet is without record 0: two things, in 0 and in 1, and no link. */
+/* Our no sheet without record 0: thing 0 in 0, thing 1 in 1, no link. */
 static const uint8_t kind_7_rows[32] = { 1, 0, 0, 0, 0, 0, 0, 0, 2 };
 
 static inline struct question kind_7(const uint8_t *marks)

@@ -81,7 +81,7 @@ fn step(rng: &mut Rng, n: usize, m: usize, held: &[u8], next: u8, records: &mut 
     }
 }
 
-/// Kind 3 or 7, then none to two times kind 5 or, after kind 3 or 7, kind 6; then kind 4.
+/// A link by kind 3 or 7; none to two times kind 5, or another such link and kind 6; then kind 4.
 fn by_links(rng: &mut Rng, n: usize, m: usize, from: u8, next: u8, records: &mut Vec<[u8; 4]>) {
     let role = |rng: &mut Rng| rng.below(m) as u8;
     let mut by = role(rng);

@@ -232,7 +232,8 @@ mod tests {
     #[test]
     fn a_step_of_kind_7_uses_x_alone() {
         let q = packs::kind_7();
-        assert_eq!(check_yes(&q, &packs::kind_7_yes_sheet()), Ok(()));
+        assert_eq!(steps(&packs::KIND_7_STEPS), packs::KIND_7_SHEET);
+        assert_eq!(check_yes(&q, &packs::KIND_7_SHEET), Ok(()));
         for step in [0, 1] {
             let x = step as u16;
             for other in [[0, x, 1, 0], [0, x, 0, 1], [0, x, 1, 1], [0, 2, 0, 0]] {

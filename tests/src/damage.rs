@@ -111,7 +111,7 @@ pub fn several_at_once() -> Vec<(Question, Refused)> {
 }
 
 /// Nine records of kind 7, at n 5 and m 2, of which the first, a middle one or the last has a bad field: a role at
-/// m or above, b not zero, c not zero. Also none of them, which is good, and two at once.
+/// m or above, b not zero, c not zero. Also a pack without a bad field, and packs with two.
 pub fn fields_of_kind_7() -> Vec<(Question, Result<u64, Refused>)> {
     let with = |bad: &[(usize, [u8; 4])]| {
         let mut records = [[7, 1, 0, 0]; 9];

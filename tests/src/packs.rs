@@ -81,12 +81,15 @@ pub fn kind_7() -> Question {
 /// The steps of its yes sheet.
 pub const KIND_7_STEPS: [[u16; 4]; 3] = [[0, 0, 0, 0], [0, 1, 0, 0], [1, 0, 0, 0]];
 
-pub fn kind_7_yes_sheet() -> Vec<u8> {
-    steps(&KIND_7_STEPS)
-}
+/// The same in bytes: 0 r 0, 1 r 1, 0 in 1.
+pub const KIND_7_SHEET: [u8; 24] = [
+    0, 0, 0, 0, 0, 0, 0, 0, //
+    0, 0, 1, 0, 0, 0, 0, 0, //
+    1, 0, 0, 0, 0, 0, 0, 0,
+];
 
 /// 1,024 records of every kind, good for n = 64 and m = 8, of which only the last is marked. 61 and 7 have no common
-/// factor: concepts come with every kind.
+/// factor, so that every concept comes with every kind.
 pub fn longest() -> Question {
     let records: Vec<[u8; 4]> = (0..1024u32)
         .map(|i| {

@@ -135,7 +135,7 @@ fn kind_7() {
     // Without the record of kind 7, and with it alone.
     assert_eq!(of([2, 1, 0, 1], &[some]), "not 4\nmodule 0:\n");
     assert_eq!(of([2, 1, 0, 1], &[itself]), "not 4\nmodule 1: 0\n");
-    // It is in the module of every concept, and in the set of none that is free.
+    // It is in the module of every concept; the set of a free goal is empty.
     assert_eq!(of([2, 1, 1, 0], &[itself, some]), "not 4\nmodule 1: 0\n");
     assert_eq!(of([2, 1, 1, 1], &[itself, some]), "follows 0\nmodule 1: 0\nset 0:\n");
     // Of two alike records the second one; roles 0 and 1 are two.

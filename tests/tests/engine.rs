@@ -15,7 +15,7 @@ use noolukask_tests::{calls, chains, checker, damage, runs};
 const SMALL_PACKS: u64 = 100_000;
 /// Further ones in which a fifth of the records are of kind 7.
 const SELF_LINKED_PACKS: u64 = 20_000;
-/// 400 of them with a fifth of kind 7.
+/// 400 of them, and some of the few, with a fifth of kind 7.
 const LARGE_PACKS: u64 = 2_400;
 
 /// The verdict's number.
@@ -146,7 +146,7 @@ impl Counts {
     fn print(&self, what: &str) {
         println!(
             "counts: engine on {} {what}: {} goals are free, {} follow, {} do not (by the meaning too: {}, {}); \
-             {} follow by kind 7 alone; most passes {}, facts {}, steps {}; refused with 1 to 5: {:?}",
+             {} follow, and not without kind 7; most passes {}, facts {}, steps {}; refused with 1 to 5: {:?}",
             self.packs, self.free, self.follow, self.not, self.by_meaning[1], self.by_meaning[0],
             self.by_kind_7, self.passes, self.facts, self.steps, &self.refused[1..],
         );
@@ -415,11 +415,7 @@ fn kind_7_and_kind_4() {
     let q = packs::kind_7();
     assert_eq!(calls::verdict(&q), 256);
     // Three steps: 2 times 3 and 1 for FOLLOWS, above the low byte.
-    let sheet = [
-        0, 0, 0, 0, 0, 0, 0, 0, //
-        0, 0, 1, 0, 0, 0, 0, 0, //
-        1, 0, 0, 0, 0, 0, 0, 0,
-    ];
+    let sheet = packs::KIND_7_SHEET;
     assert_eq!(calls::write_sheet(&q, &[7; 24]), (0x700, sheet.to_vec()));
     assert_eq!(calls::write_sheet(&q, &[7; 26]), (0x700, [&sheet[..], &[7; 2]].concat()));
     assert_eq!(calls::write_sheet(&q, &[7; 23]), (0x1808, vec![7; 23]));
@@ -464,7 +460,7 @@ fn kind_7_in_pass_order() {
     assert_eq!(yes_steps(&q), [[0, 0, 0, 0], [0, 1, 0, 0], [2, 0, 0, 0]]);
     q.marks = marks([1, 2]);
     assert_eq!(yes_steps(&q), [[1, 0, 0, 0], [1, 1, 0, 0], [2, 0, 0, 0]]);
-    // The sheet ends with the goal, which no record of kind 7 can be.
+    // The sheet ends with the goal, which no step of kind 7 concludes.
     let q = question(2, 1, &[[1, 0, 1, 0], [7, 0, 0, 0]], 0, 1);
     assert_eq!(yes_steps(&q), [[0, 0, 0, 0]]);
 }

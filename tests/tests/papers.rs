@@ -199,7 +199,7 @@ const MEDICAL_ROLES: &[&str] =
 #[test]
 fn document_001_table_2() {
     let mut example = Example::new(MEDICAL_ROLES, MEDICAL);
-    // The starred axioms, that which is left out aside.
+    // The starred axioms, but for the one that is left out.
     assert_eq!(example.module("Endocarditis"), [2, 3, 4, 6, 8, 9, 12, 13, 14]);
     // Of the two justifications the printed one lacks what stands first, the heart valve.
     let q = example.question("Endocarditis", "HeartDisease");
@@ -281,7 +281,8 @@ fn document_003_figure_2() {
     example.only_reason("AmputationOfFinger", "At8", &[1, 4, 8, 14, 15]);
     // No amputation is reached from an injury: it has no exact location.
     assert_eq!(example.module("InjuryToFinger"), [1, 2, 3, 7, 8, 9, 10, 11, 12, 13, 15]);
-    // Of a body part without whole no more than that it is one and that part-of is reflexive and transitive.
+    // The upper limb is part of nothing: its module says that it is a body part and that part-of is reflexive and
+    // transitive.
     assert_eq!(example.module("UpperLimb"), [3, 12, 13]);
     // Without axiom 15 nothing is inherited.
     let right_identity = example.place("has-location then proper-part-of under has-location");
@@ -343,7 +344,7 @@ fn document_003_a_whole_among_its_own_parts() {
     assert_eq!(example.records, records);
     // What is sited in a part is sited in the whole.
     example.only_reason("ValveRepair", "AtHeart", &[1, 2, 3, 8]);
-    // The whole is among its own parts: it is by axiom 7 alone that the heart is in its structure.
+    // The whole is among its own parts: without axiom 7 the heart is not in its structure.
     example.only_reason("Heart", "HeartStructure", &[4, 7]);
     example.only_reason("HeartRepair", "StructureProcedure", &[4, 5, 6, 7]);
     // The valve is a part by axiom 2.

@@ -183,14 +183,8 @@ fn each_kind_in_one_step_more() {
 
 #[test]
 fn kind_7_needs_no_premise() {
-    // 0 r 0, 1 r 1, 0 in 1.
     let q = packs::kind_7();
-    let sheet = [
-        0, 0, 0, 0, 0, 0, 0, 0, //
-        0, 0, 1, 0, 0, 0, 0, 0, //
-        1, 0, 0, 0, 0, 0, 0, 0,
-    ];
-    assert_eq!(sheet[..], packs::kind_7_yes_sheet());
+    let sheet = packs::KIND_7_SHEET;
     assert_eq!(yes(&q, &sheet), ACCEPTED);
     // 1 r 1 is not needed, and may be concluded again; 0 r 0 is needed, and 1 r 1 is no 0 r 0.
     assert_eq!(yes(&q, &[&sheet[..8], &sheet[16..]].concat()), ACCEPTED);

@@ -1,4 +1,4 @@
--- Document 01's cases C1 to C12, and cases at which an error shows that was planted once in definitions and code together:
+-- Document 01's cases C1 to C12, those of kind 7 (document 02, 2/12), and cases at which an error shows that was planted once in definitions and code together:
 -- one table of questions, packs and sheets, with what the calls must give, in numbers and bytes.
 use mathlib.Core.Path.{_≡_}
 use mathlib.Core.Bool.{false}
@@ -250,7 +250,7 @@ sheetCases =
     ∷ CheckYes (ask (recordOf 1 0 1 0) 0b1 2 0 0 1) (step 0 0 1 0) 10 0 10
     ∷ CheckYes (ask (recordOf 1 0 1 0) 0b1 2 0 0 1) (step 0 0 0 1) 10 0 10
     ∷ CheckYes (ask (recordOf 1 0 1 0) 0b1 2 0 0 1) (0 ∷ 1 ∷ 0 ∷ 0 ∷ 0 ∷ 0 ∷ 0 ∷ 0 ∷ []) 10 0 10
-    -- so are Y and Z of a step of kind 7, and its X is below n
+    -- a step of kind 7: Y and Z are zero, and X is below n
     ∷ CheckYes (ask itself 0b11 2 1 0 1) (step 0 0 0 0 ++ step 1 0 0 0) 0 0 0
     ∷ CheckYes (ask itself 0b11 2 1 0 1) (step 0 0 1 0 ++ step 1 0 0 0) 10 0 10
     ∷ CheckYes (ask itself 0b11 2 1 0 1) (step 0 0 0 1 ++ step 1 0 0 0) 10 0 10

@@ -1,4 +1,4 @@
--- Document 01 in definitions. The meaning: World, Rules. The bytes: Bytes, Record. What comes back: Table, Answers, Pack, Question.
+-- Documents 01 and 02 (2/12) in definitions. The meaning: World, Rules. The bytes: Bytes, Record. What comes back: Table, Answers, Pack, Question.
 pub mod World
 pub mod Rules
 pub mod Bytes
