@@ -1,4 +1,6 @@
 // Bits of a 64-bit word. Callers go by the laws of proofs/BitLaws.antt and never unfold `has`.
+#![tactic(auto)]
+
 ghost use Rattle.std.specs.Prelude.{◌≡◌, cond, not, ◌&&◌, ◌||◌, ℕ, ◌-◌, ◌%◌, eqb};
 ghost use Rattle.bits.specs.Bit.{has, with_bit};
 ghost use Rattle.bits.specs.Sets.{lowest, count_to};

@@ -1,4 +1,6 @@
 // The engine: passes over the rows, the verdict, completion.
+#![tactic(auto)]
+
 pub mod complete;
 pub mod run;
 pub mod verdict;

@@ -3,7 +3,7 @@ ghost use Rattle.std.specs.Prelude.{◌≡◌, length};
 ghost use Rattle.lines.specs.Input.{question_in, input_of};
 
 // What the input asks: sizes and a goal of the pack that ends at `at`; or 1 or 2 of document 01's table.
-#[derive(Drop)]
+#[derive(Clone, Copy)]
 pub enum Input {
     Refused(u32),
     Question {

@@ -1,4 +1,6 @@
 // The bench program's lines: from the bytes of its input to the text that answers them, in a lent buffer.
+#![tactic(auto)]
+
 ghost use Rattle.lines.specs.Prints.{Prints, PrintsAsked, WritesThe, all_marks};
 
 mod input;

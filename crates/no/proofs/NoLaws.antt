@@ -9,7 +9,6 @@ use lib.Dec.{eqb, ltb, leb}
 use lib.ListN.{length}
 use borrow.Author.Tests.{le-ltb, ltb-false, leb-true, le-leb, not-true, not-false}
 use Rattle.bits.specs.Bit.{has}
-use Rattle.bits.specs.Sets.{some}
 use Rattle.bits.proofs.Truth.{both_true, true_both, never, is_no, clash, cond_first, cond_second}
 use Rattle.bits.proofs.SetLaws.{lowest-is, lowest-none, none-lowest, first_none, some-true, true-some}
 use Rattle.pack.specs.declared.check.Refusal.{Refusal}

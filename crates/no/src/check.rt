@@ -17,7 +17,7 @@ use pack::line::line_at;
 use pack::question::check_question;
 
 // What the no check answers.
-#[derive(Drop)]
+#[derive(Clone, Copy)]
 pub enum NoAnswer {
     Refused(Refusal),
     Length,

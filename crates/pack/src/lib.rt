@@ -1,4 +1,6 @@
 // A pack and the question about it: records, lines, the goal; words and marks read from bytes.
+#![tactic(auto)]
+
 pub mod bytes;
 pub mod check;
 pub mod line;

@@ -15,7 +15,7 @@ use marks::change::cut_marks;
 use marks::look::next_marked;
 
 // Places from `from` on and below `to`.
-#[derive(Drop)]
+#[derive(Clone, Copy)]
 pub struct Range {
     pub from: usize,
     pub to: usize,

@@ -1,4 +1,6 @@
 // Why a goal follows: the module and the printed set.
+#![tactic(auto)]
+
 pub mod halve;
 pub mod module;
 pub mod out;

@@ -11,7 +11,7 @@ use marks::look::next_marked;
 use pack::line::{Line, line_at};
 
 // Names of a question: a bit for each concept, and a bit for each role.
-#[derive(Drop)]
+#[derive(Clone, Copy)]
 pub struct Names {
     pub concepts: u64,
     pub roles: u64,

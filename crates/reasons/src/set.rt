@@ -18,7 +18,7 @@ use marks::look::count_marked;
 use pack::check::{Checked, Refusal};
 
 // What the printed set's call answers.
-#[derive(Drop)]
+#[derive(Clone, Copy)]
 pub enum SetAnswer {
     Refused(Refusal),
     TooLong,

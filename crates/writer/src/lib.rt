@@ -1,2 +1,4 @@
 // The writer of our sheets.
+#![tactic(auto)]
+
 pub mod write;

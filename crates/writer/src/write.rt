@@ -16,7 +16,7 @@ use pack::question::check_question;
 use tables::in_held;
 
 // What the sheet writer answers.
-#[derive(Drop)]
+#[derive(Clone, Copy)]
 pub enum SheetAnswer {
     Refused(Refusal),
     TooLong,

@@ -12,7 +12,7 @@ use pack::question::check_question;
 use tables::{in_held, start_tables};
 
 // What the yes check answers.
-#[derive(Drop)]
+#[derive(Clone, Copy)]
 pub enum YesAnswer {
     Refused(Refusal),
     Length,

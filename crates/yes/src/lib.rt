@@ -1,3 +1,5 @@
 // The check of a yes sheet. It stands below everything that writes sheets and knows nothing of passes.
+#![tactic(auto)]
+
 pub mod check;
 pub mod step;
