@@ -71,12 +71,12 @@ length_of bytes = eqb (bytes % 8) 0 && leb bytes 524288
 
 -- AS IT IS WORKED OUT
 unfoldable pub worked : Case → Told
-worked (Ask q (Follows steps bytes count low) inModule first) =
+worked (Ask q (Follows steps bytes count low) in_module first) =
     asked (check_question q.n q.m q.pack q.marks q.a q.b) (check_question q.n q.m q.pack q.marks q.a q.a) (goal_held q.n q.m q.pack q.marks q.a q.b)
     (yes_bytes q.n q.m q.pack q.marks q.a q.b) (length bytes)
     (module_marks q.n q.m q.pack q.marks q.a) (mark_count (words first))
     (set_marks q.n q.m q.pack q.marks q.a q.b) (mark_count (words low))
-worked (Ask q (Not rows bytes) inModule first) =
+worked (Ask q (Not rows bytes) in_module first) =
     asked (check_question q.n q.m q.pack q.marks q.a q.b) (check_question q.n q.m q.pack q.marks q.a q.a) (goal_held q.n q.m q.pack q.marks q.a q.b)
     (no_bytes q.n q.m q.pack q.marks) (length bytes)
     (module_marks q.n q.m q.pack q.marks q.a) (mark_count (words first))
@@ -92,10 +92,10 @@ worked (CheckZeros q bytes number) =
 
 -- AS THE CASE HAS IT
 unfoldable pub claimed : Case → Told
-claimed (Ask q (Follows steps bytes count low) inModule first) =
-    asked (Count (record_count q.pack)) (Count (record_count q.pack)) true bytes (8 * steps) (words first) inModule (words low) count
-claimed (Ask q (Not rows bytes) inModule first) =
-    asked (Count (record_count q.pack)) (Count (record_count q.pack)) false bytes (8 * rows) (words first) inModule [] 0
+claimed (Ask q (Follows steps bytes count low) in_module first) =
+    asked (Count (record_count q.pack)) (Count (record_count q.pack)) true bytes (8 * steps) (words first) in_module (words low) count
+claimed (Ask q (Not rows bytes) in_module first) =
+    asked (Count (record_count q.pack)) (Count (record_count q.pack)) false bytes (8 * rows) (words first) in_module [] 0
 claimed (OnePass q bytes) = passed bytes false
 claimed (CheckPack n m pack number value) = checked number value 0
 claimed (CheckYes q sheet number place c) = checked number place c
@@ -208,32 +208,32 @@ module _ (n m : ℕ) (s ws : List ℕ) (a b : ℕ) {k : ℕ} (taken : check_ques
 -- WHERE WHAT IS WORKED OUT IS WHAT THE CASE HAS, THE CASE HOLDS
 pub worked_holds : (c : Case) → worked c ≡ claimed c → Holds c
 unfolding worked claimed
-worked_holds (Ask q (Follows steps bytes count low) inModule first) e =
+worked_holds (Ask q (Follows steps bytes count low) in_module first) e =
     let taken : check_question q.n q.m q.pack q.marks q.a q.b ≡ Count (record_count q.pack) = cc in
     let own : check_question q.n q.m q.pack q.marks q.a q.a ≡ Count (record_count q.pack) = cc in
     let held : goal_held q.n q.m q.pack q.marks q.a q.b ≡ true = cc in
     let ours : yes_bytes q.n q.m q.pack q.marks q.a q.b ≡ bytes = cc in
     let long : length bytes ≡ 8 * steps = cc in
     let reach : module_marks q.n q.m q.pack q.marks q.a ≡ words first = cc in
-    let many : mark_count (words first) ≡ inModule = cc in
+    let many : mark_count (words first) ≡ in_module = cc in
     let set : set_marks q.n q.m q.pack q.marks q.a q.b ≡ words low = cc in
     let few : mark_count (words low) ≡ count = cc in (
       verdict_told_lem q.n q.m q.pack q.marks q.a q.b {r = verdicts.Follows} (sym (verdict_is q.n q.m q.pack q.marks q.a q.b taken held)),
       follows_sheet q.n q.m q.pack q.marks q.a q.b taken held steps bytes ours long,
-      its_module q.n q.m q.pack q.marks q.a own inModule first reach many,
+      its_module q.n q.m q.pack q.marks q.a own in_module first reach many,
       its_set q.n q.m q.pack q.marks q.a q.b taken held count low set few,
     )
-worked_holds (Ask q (Not rows bytes) inModule first) e =
+worked_holds (Ask q (Not rows bytes) in_module first) e =
     let taken : check_question q.n q.m q.pack q.marks q.a q.b ≡ Count (record_count q.pack) = cc in
     let own : check_question q.n q.m q.pack q.marks q.a q.a ≡ Count (record_count q.pack) = cc in
     let held : goal_held q.n q.m q.pack q.marks q.a q.b ≡ false = cc in
     let ours : no_bytes q.n q.m q.pack q.marks ≡ bytes = cc in
     let long : length bytes ≡ 8 * rows = cc in
     let reach : module_marks q.n q.m q.pack q.marks q.a ≡ words first = cc in
-    let many : mark_count (words first) ≡ inModule = cc in (
+    let many : mark_count (words first) ≡ in_module = cc in (
       verdict_told_lem q.n q.m q.pack q.marks q.a q.b {r = verdicts.Not} (sym (verdict_is q.n q.m q.pack q.marks q.a q.b taken held)),
       not_sheet q.n q.m q.pack q.marks q.a q.b taken held rows bytes ours long,
-      its_module q.n q.m q.pack q.marks q.a own inModule first reach many,
+      its_module q.n q.m q.pack q.marks q.a own in_module first reach many,
       no_set q.n q.m q.pack q.marks q.a q.b taken held,
     )
 worked_holds (OnePass q bytes) e = (cc, cc)

@@ -64,7 +64,7 @@ words low = low ∷ replicate 15 0
 
 -- the bytes of steps in the order in which they were added
 abbrev pub steps_bytes : List Step → List ℕ
-steps_bytes newestFirst = flatten (map step_bytes (reverse newestFirst))
+steps_bytes newest_first = flatten (map step_bytes (reverse newest_first))
 
 -- the steps that one pass adds, newest first
 abbrev pub one_pass : Question → List Step
@@ -72,15 +72,15 @@ one_pass q = pass (free q.n) (lines_of q.pack) (counted q.pack q.marks) q.n []
 
 -- WHAT A CASE CLAIMS, in the calls' promises. Our sheet goes into a buffer that is 8 bytes longer
 abbrev pub Holds : Case → Type 0
-Holds (Ask q (Follows steps bytes count low) inModule first) =
+Holds (Ask q (Follows steps bytes count low) in_module first) =
     GivesVerdict q.n q.m q.pack q.marks q.a q.b 0 1
     × GivesSheet q.n q.m q.pack q.marks q.a q.b (blank (length bytes + 8)) (bytes ++ blank 8) 0 (2 * steps + 1)
-    × GivesModule q.n q.m q.pack q.marks q.a lent (words first) 0 inModule
+    × GivesModule q.n q.m q.pack q.marks q.a lent (words first) 0 in_module
     × GivesSet q.n q.m q.pack q.marks q.a q.b lent (words low) 0 count
-Holds (Ask q (Not rows bytes) inModule first) =
+Holds (Ask q (Not rows bytes) in_module first) =
     GivesVerdict q.n q.m q.pack q.marks q.a q.b 0 0
     × GivesSheet q.n q.m q.pack q.marks q.a q.b (blank (length bytes + 8)) (bytes ++ blank 8) 0 (2 * rows)
-    × GivesModule q.n q.m q.pack q.marks q.a lent (words first) 0 inModule
+    × GivesModule q.n q.m q.pack q.marks q.a lent (words first) 0 in_module
     × GivesSet q.n q.m q.pack q.marks q.a q.b lent lent 7 0
 Holds (OnePass q bytes) = (steps_bytes (one_pass q) ≡ bytes) × (holds (el (lines_of q.pack)) (free q.n) (one_pass q) (In q.a q.b) ≡ false)
 Holds (CheckPack n m pack number value) = GivesPack n m pack number value
