@@ -1,4 +1,4 @@
-// The two checks for C: numbers and byte slices, the marks as 128 bytes.
+// The two checks as C calls them: numbers and byte slices, the marks as 128 bytes. What C links is in sheets_c.
 ghost use Rattle.std.specs.Prelude.{◌/◌, ◌%◌};
 ghost use Rattle.pack.specs.Bytes.{marks_in};
 ghost use Rattle.yes.specs.Answers.{GivesYes};
@@ -10,8 +10,7 @@ use pack::bytes::read_marks;
 use yes::check::check_yes;
 
 // The yes check for C.
-#[unsafe(no_mangle)]
-pub extern "C" fn noolukask_check_yes<'a>(
+pub fn noolukask_check_yes<'a>(
     n: u64,
     m: u64,
     pack: &'a [u8],
@@ -35,8 +34,7 @@ pub extern "C" fn noolukask_check_yes<'a>(
 }
 
 // The no check for C.
-#[unsafe(no_mangle)]
-pub extern "C" fn noolukask_check_no<'a>(
+pub fn noolukask_check_no<'a>(
     n: u64,
     m: u64,
     pack: &'a [u8],

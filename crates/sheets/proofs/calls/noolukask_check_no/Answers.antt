@@ -1,5 +1,4 @@
 -- `noolukask_check_no`: 128 bytes of marks are 16 words, others are none; then the code of what `check_no` answers.
-use borrow.Author.Rules.{rules}
 use borrow.Author.Tests.{ne_eqb, eq-eqb}
 use Rattle.sheets.proofs.Promises.{no_coded}
 use Rattle.sheets.proofs.calls.noolukask_check_no.Goals as goal

@@ -1,5 +1,4 @@
 -- `noolukask_check_yes`: 128 bytes of marks are 16 words, others are none; then the code of what `check_yes` answers.
-use borrow.Author.Rules.{rules}
 use borrow.Author.Tests.{eq-eqb, ne_eqb}
 use Rattle.sheets.proofs.Promises.{yes_coded}
 use Rattle.sheets.proofs.calls.noolukask_check_yes.Goals as goal

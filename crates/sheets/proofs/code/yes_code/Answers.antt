@@ -1,5 +1,4 @@
 -- `yes_code`: answer by answer: its number plus 16 times its place or step (`place_code`), or the number alone.
-use borrow.Author.Rules.{rules}
 use Rattle.sheets.proofs.code.yes_code.Goals as goal
 
 pub returns-in-Refused : goal.returns-in-Refused
