@@ -1,7 +1,7 @@
 /* An editor's round on the valve pack: the verdict with its sheet and the check of the sheet, the module,
  * the reason; a record of the reason is struck, and all is asked again, until the goal is gone.
  *
- * gcc -Iinclude examples/desk.c target/staticlib/libsheets.a target/staticlib/libdesk.a
+ * gcc -Iinclude examples/desk.c build/lib/libsheets.a build/lib/libdesk.a
  */
 #include "guarded.h"
 

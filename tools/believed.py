@@ -45,9 +45,9 @@ def believed(tree, but=()):
         if page.path.endswith('.rt'):
             for function in pages.functions(page):
                 if function.public and function.name in calls:
-                    for _, result, text in function.ensures:
-                        said = pages.words(text)
-                        todo |= places(page, set(said) - {result, *function.parameters, *pages.bound(said)})
+                    for _, text in function.ensures:
+                        said = pages.words(text, page)
+                        todo |= places(page, set(said) - {'result', *function.parameters, *pages.bound(said)})
                     todo |= places(page, pages.words(' '.join([*function.parameters.values(), function.result or ''])))
     while todo:
         place = at_home(todo.pop(), every)

@@ -18,16 +18,60 @@ def tree(patterns=KEPT):
     return found
 
 
+# What the kit's two pages of common names pass on, by the pages that it comes from: a name is one name whether a file has
+# it from there or from here.
+COMMON = ('Rattle.std.specs.Prelude', 'Rattle.std.proofs.Common')
+PASSED_ON = {name: page for page, names in {
+    'mathlib.Core.Path': '◌≡◌ refl',
+    'mathlib.Core.Bool': 'Bool true false cond not ◌&&◌ ◌||◌',
+    'mathlib.Core.List': 'List [] ◌∷◌ ◌++◌ map reverse',
+    'mathlib.Core.Logic': '◌≢◌ ◌⊎◌ ◌↔◌',
+    'Prim.Native.Nat': 'ℕ zero suc pred ◌+◌ ◌-◌ ◌*◌ ◌/◌ ◌%◌ ◌^◌ ◌<◌ ◌≤◌ min max',
+    'lib.Dec': 'T eqb ltb leb',
+    'lib.ListN': 'length get_or take drop set replicate',
+    'lib.Bits': 'bit_and bit_or bit_xor',
+}.items() for name in names.split()}
+KIT_PAGES = {'Rattle.std.specs.Int.Bits': 'lib.Bits'}
+
+
 def crates(tree):
-    """The crates, lowest first, each with those that it stands on."""
-    return {name: others.split() for name, others in re.findall(r'^(\w+):(.*)$', tree['crates.txt'], re.M)}
+    """The crates, lowest first, each with those that it stands on; a static library has that word behind its name."""
+    rows = re.findall(r'^[ \t]*(\w+)[^:#\n]*:?([^#\n]*)', tree['crates.txt'], re.M)
+    return {name: others.replace(',', ' ').split() for name, others in rows}
 
 
-def words(text):
-    """The words and brackets of a text; the dot that ends the names after a λ is a word."""
+def static_libraries(tree):
+    """The crates that C links."""
+    return re.findall(r'^[ \t]*(\w+) +staticlib\b', tree['crates.txt'], re.M)
+
+
+def words(text, page=None):
+    """The words and brackets of a text; the dot that ends the names after a λ is a word. On a page, so is each field that
+    is taken of something (x.f); a name with its data's or its alias before it (Outcome.follows) is one word."""
     found = []
     for word in re.findall(r'\[\]|[(){}\[\],;]|[^\s(){}\[\],;]+', text):
-        found += [word[:-1], '.'] if len(word) > 1 and word.endswith('.') and not word.endswith('..') else [word]
+        ends = len(word) > 1 and word.endswith('.') and not word.endswith('..')
+        word = word[:-1] if ends else word
+        head, *fields = word.split('.')
+        apart = page and head and all(fields) and not page.is_named(head)
+        found += [head, *(f'.{field}' for field in fields)] if apart else [word]
+        found += ['.'] if ends else []
+    return found
+
+
+def spelled_out(path):
+    """The rows of words that the path of a `use` of the code stands for: a::{b, c::d} for a b and a c d."""
+    head, brace, rest = ' '.join(path.split()).partition('{')
+    folders = head.split('::')
+    if not brace:
+        return [[word.strip() for word in folders]]
+    found, depth, start = [], 0, 0
+    inside = rest.rstrip()[:-1] + ','
+    for i, sign in enumerate(inside):
+        depth += (sign == '{') - (sign == '}')
+        if sign == ',' and depth == 0:
+            part, start = inside[start:i].strip(), i + 1
+            found += [[*folders[:-1], *row] for row in spelled_out(part)] if part else []
     return found
 
 
@@ -76,23 +120,27 @@ class Page:
         self.name = re.sub(r'^crates/|\.\w+$', '', path)
         self.path, self.text, self.crate = path, text, self.name.split('/')[0]
         self.items, self.parents, self.names, self.aliases, self.doubled = {}, {}, {}, {}, set()
-        for used in re.finditer(r'^(?:ghost )?use ([^\s;{]+?)(?:\.\{([^}]*)\})?(?: as (\w+))?;?$', text, re.M):
+        for used in re.finditer(r'^(?:pub )?(?:ghost )?use ([^\s;{:]+?)(?:\.\{([^}]*)\})?(?: as (\w+))?;?$', text, re.M):
             self.use(*used.groups())
+        for used in re.finditer(r'^(?:pub )?use (\w+::[^;]*);', text, re.M) if path.endswith('.rt') else ():
+            for *folders, name in spelled_out(used[1]):
+                self.use_code(folders, name)
         (self.read_code if path.endswith('.rt') else self.read)()
 
+    def use_code(self, folders, name):
+        """A `use` of the code, of one thing."""
+        crate, *files = folders
+        whole, _, short = name.partition(' as ')
+        self.names[short or whole] = (f'{self.crate if crate == "crate" else crate}/src/{"/".join(files) or "lib"}', whole)
+
     def use(self, path, names, alias):
-        """A `use`: of names of a page, of a page as an alias, or of one thing of the code."""
-        if '::' in path:
-            crate, *files, name = path.split('::')
-            crate = self.crate if crate == 'crate' else crate
-            self.names[name] = (f'{crate}/src/{"/".join(files) or "lib"}', name)
-            return
-        page, prefix = path, ''
-        ours = re.fullmatch(r'Rattle·(\w+)(?:·\w+)?\.(.*)', path)
+        """A `use` of names of a page, or of a page as an alias."""
+        page, prefix = KIT_PAGES.get(path, path), ''
+        ours = re.fullmatch(r'Rattle\.(?!std\b)(\w+)\.(.*)', path)
         if ours:
             crate, rest = ours[1], ours[2].split('.')
             if rest[:2] == ['specs', 'declared']:
-                prefix = rest[-2] + '.' if rest[-1] == 'the-variants' else ''
+                prefix = rest[-2] + '.' if rest[-1] == 'TheVariants' else ''
                 files = rest[2:-2] if prefix else rest[2:-1]
                 rest = ['src', *(files or ['lib'])]
             page = '/'.join([crate, *rest])
@@ -101,7 +149,8 @@ class Page:
         for name in (names or '').split(','):
             whole, _, short = name.strip().partition(' as ')
             if whole:
-                self.names[(short or whole).strip('_')] = (page, prefix + whole)
+                home = PASSED_ON.get(whole, page) if page in COMMON else page
+                self.names[(short or whole).strip('◌')] = (home, prefix + whole)
 
     def read(self):
         """The sections and items of a page of definitions or theorems."""
@@ -164,9 +213,13 @@ class Page:
                 item.parts = [re.sub(r'\w+: ', '', ' '.join(lines[k].split())) for k in item.lines[1:]]
                 self.items[item.name] = item
 
+    def is_named(self, word):
+        """Whether a word is a name or an alias of this page, and no variable."""
+        return word in self.aliases or self.resolve(word) is not None
+
     def resolve(self, word):
         """Where a name of this page comes from, and its name there; None for what is no name or the language's own."""
-        if word in self.items or word in self.parents or f'_{word}_' in self.items:
+        if word in self.items or word in self.parents or f'◌{word}◌' in self.items:
             return (self.name, word)
         if word in self.names:
             return self.names[word]
@@ -182,7 +235,7 @@ class Page:
 
 class Function:
     """A function of the code: its page, whether it is public and for C, its parameters with their types, the type of
-    its result, and its promises: the name of each, the name of the result in it, and its words."""
+    its result, and its promises: the name of each and its words, in which `result` is the result."""
 
     def __init__(self, page, head, signature):
         self.page, self.crate, self.public, self.for_c, self.name = page, page.crate, bool(head[1]), bool(head[2]), head[3]
@@ -200,12 +253,15 @@ def functions(page):
         head = re.match(r'(pub )?(extern "C" )?fn (\w+)', line)
         if not head:
             continue
-        body = next(k for k in range(i, len(lines)) if lines[k] == '{' or lines[k].endswith(' {'))
-        clauses = [k for k in range(i, body) if re.match(r'    (requires|ensures)\b', lines[k])] + [body]
-        function = Function(page, head, '\n'.join(lines[i:max(clauses[0], i + 1)]).removesuffix(' {'))
+        body, clauses = i, []
+        while lines[body] != '{' and not (not clauses and re.search(r' \{\}?$', lines[body])):
+            clauses += [body] if re.match(r'    (ghost|requires|ensures)\b', lines[body]) else []
+            body += 1
+        clauses.append(body)
+        function = Function(page, head, re.sub(r' \{\}?$', '', '\n'.join(lines[i:max(clauses[0], i + 1)])))
         for start, end in zip(clauses, clauses[1:]):
             text = ' '.join(' '.join(lines[start:end]).split())
-            promise = re.fullmatch(r'ensures ?(\w*) \{ λ (\w+)\. ⌜ (.*) ⌝ \}', text)
+            promise = re.fullmatch(r'ensures ?(\w*) \{ (.*) \}', text)
             if promise:
                 function.ensures.append(promise.groups())
             elif text.startswith('ensures'):
@@ -223,10 +279,10 @@ def builds(place, every):
 
 def names(page, item, every):
     """The words of an item but for those that it binds itself, on the left of a clause too."""
-    tokens = words(item.text())
+    tokens = words(item.text(), page)
     own = set(bound(tokens))
     for part in item.parts[1:] if item.open and not item.kind else []:
-        left = words(re.split(r' =(?: |$)', part)[0])[1:]
+        left = words(re.split(r' =(?: |$)', part)[0], page)[1:]
         own |= {word for word in left if not builds(page.resolve(word), every)}
     return set(tokens) - own
 

@@ -9,7 +9,9 @@ import re
 from pages import bound, words
 
 BITS = {'u8': '8', 'u16': '16', 'u32': '32', 'u64': '64', 'usize': '64'}
-EQUALS, BELOW, POWER = ('mathlib.Core.Path', '_≡_'), ('Prim.Native.Nat', '_<_'), ('Prim.Native.Nat', '_^_')
+EQUALS, BELOW, POWER = ('mathlib.Core.Path', '◌≡◌'), ('Prim.Native.Nat', '◌<◌'), ('Prim.Native.Nat', '◌^◌')
+# What an `ensures` writes for what a reference points to: as the call begins, and at the return.
+MOMENTS = {'now': '@entry', 'old': '@entry', 'new': '@after'}
 
 
 def split(tokens, at):
@@ -68,8 +70,8 @@ class Theorem:
 
     def __init__(self, page, item):
         self.page, self.variables, self.premises = page, [], []
-        *parts, self.conclusion = split(words(item.statement), '→')
-        for part in [*(words(section.text) for section in item.sections), *parts]:
+        *parts, self.conclusion = split(words(item.statement, page), '→')
+        for part in [*(words(section.text, page) for section in item.sections), *parts]:
             found = groups(part)
             if not found:
                 self.premises += conjuncts(part)
@@ -84,17 +86,38 @@ def promise(function):
     """The words of a call's promise, factor by factor: a buffer is one word before the call and another one after it,
     and the result is one word in all clauses."""
     found = []
-    for _, result, text in function.ensures:
-        text = re.sub(r'\(now \((\w+) \.(entry|exit)\)\)', r'\1@\2', text)
-        text = re.sub(r'now \((\w+) \.(entry|exit)\)', r'\1@\2', text).replace('@exit', '@after')
-        tokens = ['result@after' if word == result else word for word in words(text)]
+    for _, text in function.ensures:
+        text = re.sub(r"(?<![\w.'])(\w+)\.(now|old|new)(?![\w'-])", lambda m: moment(function, m), text)
+        tokens = ['result@after' if word == 'result' else word for word in words(text, function.page)]
         found += conjuncts(tokens)
     return found
+
+
+def moment(function, found):
+    """One word for what a parameter points to, where `now` is said of one that is lent to read, `old` and `new` of one that is lent to write."""
+    kind = function.parameters.get(found[1], '')
+    fits = kind.startswith('&') and (found[2] != 'now') == lent_to_write(kind)
+    return found[1] + MOMENTS[found[2]] if fits else found[0]
+
+
+def lent_to_write(kind):
+    """Whether a type is that of a reference through which is written."""
+    return bool(re.match(r"&('\w+ )?mut\b", kind))
 
 
 def variables(function):
     """The words of a promise that stand for what the call is given, gives and leaves."""
     return {'result@after', *(f'{name}{when}' for name in function.parameters for when in ('', '@entry', '@after'))}
+
+
+def alike(one, other):
+    """Whether two functions take the same, give the same and promise the same, word for word; neither asks anything."""
+    if one.requires or other.requires or one.parameters != other.parameters or one.result != other.result:
+        return False
+    ones, others = promise(one), promise(other)
+    return list(one.parameters) == list(other.parameters) and len(ones) == len(others) and all(
+        len(factor) == len(second) and all(same(one.page, word, other.page, another) for word, another in zip(factor, second))
+        for factor, second in zip(ones, others))
 
 
 def plain(tokens, others):
@@ -178,4 +201,4 @@ def lacks(function):
     """What a call gives or changes and its promise does not speak of."""
     given = {word for factor in promise(function) for word in factor}
     found = ['its result'] if function.result and 'result@after' not in given else []
-    return found + [f'`{name}` afterwards' for name, kind in function.parameters.items() if kind.startswith('&mut') and f'{name}@after' not in given]
+    return found + [f'`{name}` afterwards' for name, kind in function.parameters.items() if lent_to_write(kind) and f'{name}@after' not in given]

@@ -9,14 +9,14 @@ use std::io::Write;
 use std::process::{Command, Stdio};
 use std::time::Duration;
 
-const PROGRAM: &str = concat!(env!("CARGO_MANIFEST_DIR"), "/../target/bin/bench");
+const PROGRAM: &str = concat!(env!("CARGO_MANIFEST_DIR"), "/../crates/bench/out/bench");
 
 /// Names the emulator, where these tests are run by one; `tools/platform` sets it.
 const RUNNER: &str = "CARGO_TARGET_X86_64_UNKNOWN_LINUX_GNU_RUNNER";
 
 /// What the program prints when its standard input comes in these pieces.
 fn run_on(pieces: &[&[u8]]) -> String {
-    assert!(std::path::Path::new(PROGRAM).exists(), "no {PROGRAM}: `rt check bench` writes it");
+    assert!(std::path::Path::new(PROGRAM).exists(), "no {PROGRAM}: `make crates/bench/out/bench` writes it, and `rt ci` too");
     let runner = std::env::var(RUNNER).unwrap_or_default();
     let words: Vec<&str> = runner.split_whitespace().chain([PROGRAM]).collect();
     let mut command = Command::new(words[0]);
