@@ -31,17 +31,17 @@ pub one_has : (w j : ℕ) → bit w j ≡ 1 → has w j ≡ true
 unfolding bit has
 one_has w j h = eq-eqb (w / 2 ^ j % 2) 1 h
 
-pub not-has : (w j : ℕ) → bit w j ≡ 0 → has w j ≡ false
+pub not_has : (w j : ℕ) → bit w j ≡ 0 → has w j ≡ false
 unfolding bit has
-not-has w j h = ne_eqb (w / 2 ^ j % 2) 1 (λ e. omega arith)
+not_has w j h = ne_eqb (w / 2 ^ j % 2) 1 (λ e. omega arith)
 
-pub has-not : (w j : ℕ) → has w j ≡ false → bit w j ≡ 0
-has-not w j h = by-lt (bit w j) refl (bit_lt w j)
+pub has_not : (w j : ℕ) → has w j ≡ false → bit w j ≡ 0
+has_not w j h = by_lt (bit w j) refl (bit_lt w j)
   where
-    by-lt : (b : ℕ) → bit w j ≡ b → b < 2 → b ≡ 0
-    by-lt zero e l = refl
-    by-lt (suc zero) e l = never (one_has w j e) h
-    by-lt (suc (suc b)) e l = absurd (omega arith)
+    by_lt : (b : ℕ) → bit w j ≡ b → b < 2 → b ≡ 0
+    by_lt zero e l = refl
+    by_lt (suc zero) e l = never (one_has w j e) h
+    by_lt (suc (suc b)) e l = absurd (omega arith)
 
 -- the lowest bit, and the bits above it
 pub bit_zero : (w : ℕ) → bit w 0 ≡ w % 2
@@ -60,8 +60,8 @@ pub bit_of_zero : (j : ℕ) → bit 0 j ≡ 0
 bit_of_zero zero = bit_zero 0
 bit_of_zero (suc j) = bit_suc 0 j ∙ bit_of_zero j
 
-pub has-zero : (j : ℕ) → has 0 j ≡ false
-has-zero j = not-has 0 j (bit_of_zero j)
+pub has_zero : (j : ℕ) → has 0 j ≡ false
+has_zero j = not_has 0 j (bit_of_zero j)
 
 pub bit_high : (k a j : ℕ) → a < 2 ^ k → k ≤ j → bit a j ≡ 0
 bit_high zero a j h l = ap (λ (x : ℕ). bit x j) (lt-one h) ∙ bit_of_zero j
@@ -70,7 +70,7 @@ bit_high (suc k) a (suc j) h l = bit_suc a j ∙ bit_high k (a / 2) j (omega (ar
 
 -- a word of k bits has none from k on
 pub has_high : (k a j : ℕ) → a < 2 ^ k → k ≤ j → has a j ≡ false
-has_high k a j h l = not-has a j (bit_high k a j h l)
+has_high k a j h l = not_has a j (bit_high k a j h l)
 
 -- and, or, not
 bit-and : (a b j : ℕ) → bit (bit_and a b) j ≡ min (bit a j) (bit b j)
@@ -94,36 +94,36 @@ bit_not (suc k) a (suc j) h l =
 -- the answers of `has` follow those of `bit` through any of the three
 pub by_bits : (w j : ℕ) (t : Bool) → (t ≡ true → bit w j ≡ 1) → (t ≡ false → bit w j ≡ 0) → has w j ≡ t
 by_bits w j true f g = one_has w j (f refl)
-by_bits w j false f g = not-has w j (g refl)
+by_bits w j false f g = not_has w j (g refl)
 
 pub bit_has : (w j : ℕ) → bit w j ≡ cond (has w j) 1 0
 bit_has w j = go (has w j) refl
   where
     go : (t : Bool) → has w j ≡ t → bit w j ≡ cond t 1 0
     go true e = has_one w j e
-    go false e = has-not w j e
+    go false e = has_not w j e
 
-pub has-and : (a b j : ℕ) → has (bit_and a b) j ≡ (has a j && has b j)
-has-and a b j = go (has a j) (has b j) (bit_has a j) (bit_has b j)
+pub has_and : (a b j : ℕ) → has (bit_and a b) j ≡ (has a j && has b j)
+has_and a b j = go (has a j) (has b j) (bit_has a j) (bit_has b j)
   where
     go : (p q : Bool) → bit a j ≡ cond p 1 0 → bit b j ≡ cond q 1 0 → has (bit_and a b) j ≡ (p && q)
     go true true e f = one_has (bit_and a b) j (omega (arith, bit-and a b j))
-    go true false e f = not-has (bit_and a b) j (omega (arith, bit-and a b j))
-    go false q e f = not-has (bit_and a b) j (omega (arith, bit-and a b j))
+    go true false e f = not_has (bit_and a b) j (omega (arith, bit-and a b j))
+    go false q e f = not_has (bit_and a b) j (omega (arith, bit-and a b j))
 
-pub has-or : (a b j : ℕ) → has (bit_or a b) j ≡ (has a j || has b j)
-has-or a b j = go (has a j) (has b j) (bit_has a j) (bit_has b j)
+pub has_or : (a b j : ℕ) → has (bit_or a b) j ≡ (has a j || has b j)
+has_or a b j = go (has a j) (has b j) (bit_has a j) (bit_has b j)
   where
     go : (p q : Bool) → bit a j ≡ cond p 1 0 → bit b j ≡ cond q 1 0 → has (bit_or a b) j ≡ (p || q)
     go true q e f = one_has (bit_or a b) j (omega (arith, bit-or a b j, bit_lt b j))
     go false true e f = one_has (bit_or a b) j (omega (arith, bit-or a b j))
-    go false false e f = not-has (bit_or a b) j (omega (arith, bit-or a b j))
+    go false false e f = not_has (bit_or a b) j (omega (arith, bit-or a b j))
 
-pub has-not_word : (k a j : ℕ) → a < 2 ^ k → j < k → has ((2 ^ k - 1) - a) j ≡ not (has a j)
-has-not_word k a j h l = go (has a j) (bit_has a j)
+pub has_not_word : (k a j : ℕ) → a < 2 ^ k → j < k → has ((2 ^ k - 1) - a) j ≡ not (has a j)
+has_not_word k a j h l = go (has a j) (bit_has a j)
   where
     go : (p : Bool) → bit a j ≡ cond p 1 0 → has ((2 ^ k - 1) - a) j ≡ not p
-    go true e = not-has ((2 ^ k - 1) - a) j (omega (arith, bit_not k a j h l))
+    go true e = not_has ((2 ^ k - 1) - a) j (omega (arith, bit_not k a j h l))
     go false e = one_has ((2 ^ k - 1) - a) j (omega (arith, bit_not k a j h l))
 
 -- words that are equal by their bits
@@ -141,12 +141,12 @@ has_ext k a b ha hb e =
     bit_ext k a b ha hb (λ j l. bit_has a j ∙ ap (λ (t : Bool). cond t 1 0) (e j l) ∙ sym (bit_has b j))
 
 -- a word with no bit is 0
-pub has-none : (k a : ℕ) → a < 2 ^ k → ((j : ℕ) → j < k → has a j ≡ false) → a ≡ 0
-has-none k a h e = has_ext k a 0 h (pow_pos k) (λ j l. e j l ∙ sym (has-zero j))
+pub has_none : (k a : ℕ) → a < 2 ^ k → ((j : ℕ) → j < k → has a j ≡ false) → a ≡ 0
+has_none k a h e = has_ext k a 0 h (pow_pos k) (λ j l. e j l ∙ sym (has_zero j))
 
 -- a power of two has one bit
-has-pow : (k j : ℕ) → has (2 ^ k) j ≡ eqb k j
-has-pow k j = go (ℕ_discrete k j)
+has_pow : (k j : ℕ) → has (2 ^ k) j ≡ eqb k j
+has_pow k j = go (ℕ_discrete k j)
   where
     half : (i : ℕ) → 2 ^ suc i / 2 ≡ 2 ^ i
     half i = omega (arith, pow-suc 2 i)
@@ -163,12 +163,12 @@ has-pow k j = go (ℕ_discrete k j)
 
     go : Dec (k ≡ j) → has (2 ^ k) j ≡ eqb k j
     go (yes e) = rw e (one_has (2 ^ j) j (same j) ∙ sym (eq-eqb j j refl))
-    go (no n) = not-has (2 ^ k) j (other k j n) ∙ sym (ne_eqb k j n)
+    go (no n) = not_has (2 ^ k) j (other k j n) ∙ sym (ne_eqb k j n)
 
 -- the word with bit j set has that bit and those that it had
 pub has_with : (w j i : ℕ) → has (with_bit w j) i ≡ (has w i || eqb j i)
 unfolding with_bit
-has_with w j i = has-or w (2 ^ j) i ∙ ap (λ (t : Bool). has w i || t) (has-pow j i)
+has_with w j i = has_or w (2 ^ j) i ∙ ap (λ (t : Bool). has w i || t) (has_pow j i)
 
 -- a column with one row more has bit y where that row has bit a
 pub column_bits : (column row a y : ℕ) {r : ℕ} → a < 64 → y < 64 → r ≡ cond (has row (a % 64)) (with_bit column (y % 64)) column → (j : ℕ) → has r j ≡ (has column j || (has row a && eqb y j))
@@ -188,23 +188,23 @@ one_shl j h = shl_exact {a = 1} 1 j 64 (lit< tt) (omega arith) ∙ one-mul (2 ^ 
 
 -- x & !y has the bits of x that y lacks
 pub lacking_bits : (x y : ℕ) → x < 2 ^ 64 → y < 2 ^ 64 → (j : ℕ) → has (bit_and x ((2 ^ 64 - 1) - y)) j ≡ (has x j && not (has y j))
-lacking_bits x y hx hy j = has-and x ((2 ^ 64 - 1) - y) j ∙ go (dec_lt j 64)
+lacking_bits x y hx hy j = has_and x ((2 ^ 64 - 1) - y) j ∙ go (dec_lt j 64)
   where
     go : Dec (j < 64) → (has x j && has ((2 ^ 64 - 1) - y) j) ≡ (has x j && not (has y j))
-    go (yes l) = ap (λ (t : Bool). has x j && t) (has-not_word 64 y j hy l)
+    go (yes l) = ap (λ (t : Bool). has x j && t) (has_not_word 64 y j hy l)
     go (no l) = rw (has_high 64 x j hx (omega arith))
 
 -- where one word has no bit that the other lacks, the other has each of its bits
-pub lacks-none : (a b new j : ℕ) → new ≡ 0 → has new j ≡ (has a j && not (has b j)) → has a j ≡ true → has b j ≡ true
-lacks-none a b new j e is h = not-false (has b j) (sym (is ∙ rw h) ∙ ap (λ (w : ℕ). has w j) e ∙ has-zero j)
+pub lacks_none : (a b new j : ℕ) → new ≡ 0 → has new j ≡ (has a j && not (has b j)) → has a j ≡ true → has b j ≡ true
+lacks_none a b new j e is h = not-false (has b j) (sym (is ∙ rw h) ∙ ap (λ (w : ℕ). has w j) e ∙ has_zero j)
 
 -- x & y, and x & !y: what it is for them to be 0
 pub meets_none : (x y : ℕ) → bit_and x y ≡ 0 → (j : ℕ) → (has x j && has y j) ≡ false
-meets_none x y e j = sym (has-and x y j) ∙ ap (λ (w : ℕ). has w j) e ∙ has-zero j
+meets_none x y e j = sym (has_and x y j) ∙ ap (λ (w : ℕ). has w j) e ∙ has_zero j
 
 pub none_meets : (k x y : ℕ) → x < 2 ^ k → ((j : ℕ) → j < k → (has x j && has y j) ≡ false) → bit_and x y ≡ 0
 none_meets k x y h f =
-    has-none k (bit_and x y) (omega (arith, and_le_l x y)) (λ j l. has-and x y j ∙ f j l)
+    has_none k (bit_and x y) (omega (arith, and_le_l x y)) (λ j l. has_and x y j ∙ f j l)
 
 -- x & !y is 0 exactly when y has every bit of x
 pub contained : (k x y : ℕ) → x < 2 ^ k → y < 2 ^ k → bit_and x ((2 ^ k - 1) - y) ≡ 0 → (j : ℕ) → j < k → has x j ≡ true → has y j ≡ true
@@ -212,11 +212,11 @@ contained k x y hx hy e j l h = go (has y j) refl (meets_none x ((2 ^ k - 1) - y
   where
     go : (t : Bool) → has y j ≡ t → (has x j && has ((2 ^ k - 1) - y) j) ≡ false → t ≡ true
     go true g z = refl
-    go false g z = never (true_both (has x j) (has ((2 ^ k - 1) - y) j) h (has-not_word k y j hy l ∙ ap not g)) z
+    go false g z = never (true_both (has x j) (has ((2 ^ k - 1) - y) j) h (has_not_word k y j hy l ∙ ap not g)) z
 
 pub contains : (k x y : ℕ) → x < 2 ^ k → y < 2 ^ k → ((j : ℕ) → j < k → has x j ≡ true → has y j ≡ true) → bit_and x ((2 ^ k - 1) - y) ≡ 0
 contains k x y hx hy f = none_meets k x ((2 ^ k - 1) - y) hx (λ j l. go j l (has x j) refl)
   where
     go : (j : ℕ) → j < k → (t : Bool) → has x j ≡ t → (t && has ((2 ^ k - 1) - y) j) ≡ false
-    go j l true e = has-not_word k y j hy l ∙ ap not (f j l e)
+    go j l true e = has_not_word k y j hy l ∙ ap not (f j l e)
     go j l false e = refl

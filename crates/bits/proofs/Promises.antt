@@ -31,8 +31,8 @@ count_bits_fixed w r r' = no_second
 bits_fixed : (p : ℕ → Bool) (r r' : ℕ) → r < 2 ^ 64 → r' < 2 ^ 64 → ((j : ℕ) → has r j ≡ p j) → ((j : ℕ) → has r' j ≡ p j) → r ≡ r'
 bits_fixed p r r' h h' f g = has_ext 64 r r' h h' (λ j l. no_second (f j) (g j))
 
-pub without-lowest_fixed : (w r r' : ℕ) → r < 2 ^ 64 → r' < 2 ^ 64 → ((j : ℕ) → has r j ≡ (has w j && not (eqb (lowest (has w) 0 64) j))) → ((j : ℕ) → has r' j ≡ (has w j && not (eqb (lowest (has w) 0 64) j))) → r ≡ r'
-without-lowest_fixed w = bits_fixed (λ j. has w j && not (eqb (lowest (has w) 0 64) j))
+pub without_lowest_fixed : (w r r' : ℕ) → r < 2 ^ 64 → r' < 2 ^ 64 → ((j : ℕ) → has r j ≡ (has w j && not (eqb (lowest (has w) 0 64) j))) → ((j : ℕ) → has r' j ≡ (has w j && not (eqb (lowest (has w) 0 64) j))) → r ≡ r'
+without_lowest_fixed w = bits_fixed (λ j. has w j && not (eqb (lowest (has w) 0 64) j))
 
 pub lacking_fixed : (w v r r' : ℕ) → r < 2 ^ 64 → r' < 2 ^ 64 → ((j : ℕ) → has r j ≡ (has w j && not (has v j))) → ((j : ℕ) → has r' j ≡ (has w j && not (has v j))) → r ≡ r'
 lacking_fixed w v = bits_fixed (λ j. has w j && not (has v j))

@@ -14,8 +14,8 @@ use lib.Pow.{shr_le}
 use borrow.Author.Tests.{eq-eqb, ne_eqb}
 use Rattle.bits.specs.Bit.{has}
 use Rattle.bits.specs.Sets.{lowest, count_to}
-use Rattle.bits.proofs.SetLaws.{Lowest, lowest-is, count_add, count_same}
-use Rattle.bits.proofs.BitLaws.{bit, has_one, one_has, not-has, has-not, bit_zero, bit_suc, bit_shr, bit_of_zero, has-zero, bit_high, by_bits, bit_has, has-and, has-none}
+use Rattle.bits.proofs.SetLaws.{Lowest, lowest_is, count_add, count_same}
+use Rattle.bits.proofs.BitLaws.{bit, has_one, one_has, not_has, has_not, bit_zero, bit_suc, bit_shr, bit_of_zero, has_zero, bit_high, by_bits, bit_has, has_and, has_none}
 
 -- the lowest set bit, by trailing zeros
 tz_at : (k a : ℕ) → a < 2 ^ k → (a ≡ 0 → ⊥) → bit a (count_trailing_zeros k a) ≡ 1
@@ -50,7 +50,7 @@ module _ (w y : ℕ) (hw : w < 2 ^ 64) (hy : y < 64) where
   next_none e = record {
     from = omega arith;
     within = omega arith;
-    none = λ i l h. not-has w i (shifted i l ∙ ap (λ (x : ℕ). bit x (i - y)) e ∙ bit_of_zero (i - y));
+    none = λ i l h. not_has w i (shifted i l ∙ ap (λ (x : ℕ). bit x (i - y)) e ∙ bit_of_zero (i - y));
     found = λ h. absurd (omega arith);
   }
 
@@ -63,7 +63,7 @@ module _ (w y : ℕ) (hw : w < 2 ^ 64) (hy : y < 64) where
       record {
         from = omega arith;
         within = omega arith;
-        none = λ i l h. not-has w i (shifted i l ∙ tz_below 64 (w / 2 ^ y) (i - y) (omega arith));
+        none = λ i l h. not_has w i (shifted i l ∙ tz_below 64 (w / 2 ^ y) (i - y) (omega arith));
         found = λ h. one_has w (y + t) one;
       }
 
@@ -99,22 +99,22 @@ pred_above (suc t) w (suc j) b l =
 
 -- w & (w - 1) is w without its lowest set bit
 pub without : (w j : ℕ) → w < 2 ^ 64 → (w ≡ 0 → ⊥) → has (bit_and w (w - 1)) j ≡ (has w j && not (eqb (lowest (has w) 0 64) j))
-without w j h n = has-and w (w - 1) j ∙ go (dec_lt j t) (dec_lt t j)
+without w j h n = has_and w (w - 1) j ∙ go (dec_lt j t) (dec_lt t j)
   where
     t : ℕ
     t = lowest (has w) 0 64
 
     first : Lowest (has w) 0 64 t
-    first = lowest-is (has w) 0 64
+    first = lowest_is (has w) 0 64
 
     in_word : t < 64
-    in_word = by_contra (suc t) 64 (λ l. n (has-none 64 w h (λ i k. first.none i (omega arith) (omega arith))))
+    in_word = by_contra (suc t) 64 (λ l. n (has_none 64 w h (λ i k. first.none i (omega arith) (omega arith))))
 
     bottom : Bottom w t
-    bottom = (has_one w t (first.found (omega (arith, in_word))), λ i l. has-not w i (first.none i (omega arith) l))
+    bottom = (has_one w t (first.found (omega (arith, in_word))), λ i l. has_not w i (first.none i (omega arith) l))
 
     same : (x y : ℕ) → bit x j ≡ bit y j → has x j ≡ has y j
-    same x y e = by_bits x j (has y j) (λ a. e ∙ has_one y j a) (λ a. e ∙ has-not y j a)
+    same x y e = by_bits x j (has y j) (λ a. e ∙ has_one y j a) (λ a. e ∙ has_not y j a)
 
     twice : (a : Bool) → (a && a) ≡ (a && true)
     twice true = refl
@@ -126,13 +126,13 @@ without w j h n = has-and w (w - 1) j ∙ go (dec_lt j t) (dec_lt t j)
         rw (same (w - 1) w (pred_above t w j bottom b), ne_eqb t j (λ q. omega arith)) (twice (has w j))
     go (no a) (no b) =
         let e : t ≡ j = omega arith in
-        let low : has (w - 1) j ≡ false = not-has (w - 1) j (rw e at (pred_at t w bottom)) in
+        let low : has (w - 1) j ≡ false = not_has (w - 1) j (rw e at (pred_at t w bottom)) in
         rw (low, eq-eqb t j e)
 
-pub without-none : (w j : ℕ) → w ≡ 0 → has 0 j ≡ (has w j && not (eqb (lowest (has w) 0 64) j))
-without-none w j e =
-    let none : has w j ≡ false = ap (λ (x : ℕ). has x j) e ∙ has-zero j in
-    has-zero j ∙ rw none
+pub without_none : (w j : ℕ) → w ≡ 0 → has 0 j ≡ (has w j && not (eqb (lowest (has w) 0 64) j))
+without_none w j e =
+    let none : has w j ≡ false = ap (λ (x : ℕ). has x j) e ∙ has_zero j in
+    has_zero j ∙ rw none
 
 -- the count of set bits
 pub ones_count : (k a : ℕ) → a < 2 ^ k → ones a ≡ count_to (has a) k
@@ -154,7 +154,7 @@ ones_count (suc k) a h =
     first = sym (bit_has a 0) ∙ bit_zero a
 
     shift : (j : ℕ) → has a (1 + j) ≡ has (a / 2) j
-    shift j = by_bits a (1 + j) (has (a / 2) j) (λ e. next j ∙ has_one (a / 2) j e) (λ e. next j ∙ has-not (a / 2) j e)
+    shift j = by_bits a (1 + j) (has (a / 2) j) (λ e. next j ∙ has_one (a / 2) j e) (λ e. next j ∙ has_not (a / 2) j e)
       where
         next : (j : ℕ) → bit a (1 + j) ≡ bit (a / 2) j
         next j = ap (bit a) (one-add j) ∙ bit_suc a j

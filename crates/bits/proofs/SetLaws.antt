@@ -19,15 +19,15 @@ pub record Lowest (p : ℕ → Bool) (i c r : ℕ) : Type 0 where
 
 module _ (p : ℕ → Bool) where
   -- THE SEARCH FINDS THE LOWEST, and only that is the lowest
-  pub lowest-is : (i c : ℕ) → Lowest p i c (lowest p i c)
+  pub lowest_is : (i c : ℕ) → Lowest p i c (lowest p i c)
   unfolding lowest
-  lowest-is i zero = record {
+  lowest_is i zero = record {
     from = omega arith;
     within = omega arith;
     none = λ j h l. absurd (omega arith);
     found = λ h. absurd (omega arith);
   }
-  lowest-is i (suc c) = go (p i) refl (lowest-is (i + 1) c)
+  lowest_is i (suc c) = go (p i) refl (lowest_is (i + 1) c)
     where
       go : (t : Bool) → p i ≡ t → Lowest p (i + 1) c (lowest p (i + 1) c) → Lowest p i (suc c) (cond t i (lowest p (i + 1) c))
       go true e rest = record {
@@ -59,11 +59,11 @@ module _ (p : ℕ → Bool) where
       go (no l) (no k) = omega arith
 
   pub lowest_at : {i c r : ℕ} → Lowest p i c r → r ≡ lowest p i c
-  lowest_at {i} {c} a = lowest_only a (lowest-is i c)
+  lowest_at {i} {c} a = lowest_only a (lowest_is i c)
 
   -- a number of p from i on is no lower than what the search finds
-  pub lowest-least : {i c r : ℕ} → Lowest p i c r → (q : ℕ) → i ≤ q → p q ≡ true → r ≤ q
-  lowest-least {i} {c} {r} a q h g = go (dec_lt q r)
+  pub lowest_least : {i c r : ℕ} → Lowest p i c r → (q : ℕ) → i ≤ q → p q ≡ true → r ≤ q
+  lowest_least {i} {c} {r} a q h g = go (dec_lt q r)
     where
       go : Dec (q < r) → r ≤ q
       go (yes l) = never g (a.none q h l)
@@ -92,11 +92,11 @@ module _ (p : ℕ → Bool) where
   left_end {i} {k} h l = sym (lowest_end i k h) ∙ l
 
   -- nothing below the end is in p exactly when the search comes to the end
-  pub lowest-none : (i c : ℕ) → lowest p i c ≡ i + c → (j : ℕ) → i ≤ j → j < i + c → p j ≡ false
-  lowest-none i c e j h l = (lowest-is i c).none j h (omega arith)
+  pub lowest_none : (i c : ℕ) → lowest p i c ≡ i + c → (j : ℕ) → i ≤ j → j < i + c → p j ≡ false
+  lowest_none i c e j h l = (lowest_is i c).none j h (omega arith)
 
-  pub none-lowest : (i c : ℕ) → ((j : ℕ) → i ≤ j → j < i + c → p j ≡ false) → lowest p i c ≡ i + c
-  none-lowest i c f = sym (lowest_at (record {
+  pub none_lowest : (i c : ℕ) → ((j : ℕ) → i ≤ j → j < i + c → p j ≡ false) → lowest p i c ≡ i + c
+  none_lowest i c f = sym (lowest_at (record {
     from = omega arith;
     within = omega arith;
     none = f;
@@ -111,11 +111,11 @@ module _ (p : ℕ → Bool) where
 
   pub first_is : {c r : ℕ} → r ≡ lowest p 0 c → r < c → First c r
   first_is {c} {r} e h =
-      let f : Lowest p 0 c r = rw e (lowest-is 0 c) in
+      let f : Lowest p 0 c r = rw e (lowest_is 0 c) in
       record { there = h; here = f.found (omega arith); before = λ j l. f.none j (omega arith) l }
 
   pub first_none : {c r : ℕ} → r ≡ lowest p 0 c → c ≤ r → (j : ℕ) → j < c → p j ≡ false
-  first_none {c} {r} e h j l = (lowest-is 0 c).none j (omega arith) (omega arith)
+  first_none {c} {r} e h j l = (lowest_is 0 c).none j (omega arith) (omega arith)
 
   -- the tests
   pub every_true : (c : ℕ) → every c p ≡ true → (i : ℕ) → i < c → p i ≡ true
@@ -127,41 +127,41 @@ module _ (p : ℕ → Bool) where
       go (yes e) both rest = ap p e ∙ both.1
       go (no e) both rest = rest both.0 i (omega arith)
 
-  pub true-every : (c : ℕ) → ((i : ℕ) → i < c → p i ≡ true) → every c p ≡ true
+  pub true_every : (c : ℕ) → ((i : ℕ) → i < c → p i ≡ true) → every c p ≡ true
   unfolding every
-  true-every zero h = refl
-  true-every (suc c) h = rw (true-every c (λ i l. h i (omega arith)), h c (omega arith))
+  true_every zero h = refl
+  true_every (suc c) h = rw (true_every c (λ i l. h i (omega arith)), h c (omega arith))
 
-  pub every-false : (c i : ℕ) → i < c → p i ≡ false → every c p ≡ false
+  pub every_false : (c i : ℕ) → i < c → p i ≡ false → every c p ≡ false
   unfolding every
-  every-false zero i l h = absurd (omega arith)
-  every-false (suc c) i l h = go (ℕ_discrete i c) (λ k. every-false c i k h)
+  every_false zero i l h = absurd (omega arith)
+  every_false (suc c) i l h = go (ℕ_discrete i c) (λ k. every_false c i k h)
     where
       go : Dec (i ≡ c) → (i < c → every c p ≡ false) → (every c p && p c) ≡ false
       go (yes e) rest = and_no (every c p) (p c) (ap p (sym e) ∙ h)
       go (no e) rest = rw (rest (omega arith))
 
-  pub some-true : (c : ℕ) → some c p ≡ true → (i : ℕ) × (i < c) × (p i ≡ true)
+  pub some_true : (c : ℕ) → some c p ≡ true → (i : ℕ) × (i < c) × (p i ≡ true)
   unfolding some
-  some-true zero h = never {a = false} h refl
-  some-true (suc c) h =
+  some_true zero h = never {a = false} h refl
+  some_true (suc c) h =
       or_elim {C = (i : ℕ) × (i < suc c) × (p i ≡ true)} (some c p) (p c) h
-      (λ e. let r = some-true c e in let l = r.1 in (r.0, omega arith, r.2))
+      (λ e. let r = some_true c e in let l = r.1 in (r.0, omega arith, r.2))
       (λ e. (c, omega arith, e))
 
-  pub true-some : (c i : ℕ) → i < c → p i ≡ true → some c p ≡ true
+  pub true_some : (c i : ℕ) → i < c → p i ≡ true → some c p ≡ true
   unfolding some
-  true-some zero i l h = absurd (omega arith)
-  true-some (suc c) i l h = go (ℕ_discrete i c) (λ k. true-some c i k h)
+  true_some zero i l h = absurd (omega arith)
+  true_some (suc c) i l h = go (ℕ_discrete i c) (λ k. true_some c i k h)
     where
       go : Dec (i ≡ c) → (i < c → some c p ≡ true) → (some c p || p c) ≡ true
       go (yes e) rest = or_right (some c p) (p c) (ap p (sym e) ∙ h)
       go (no e) rest = or_left (some c p) (p c) (rest (omega arith))
 
-  pub some-false : (c : ℕ) → ((i : ℕ) → i < c → p i ≡ false) → some c p ≡ false
+  pub some_false : (c : ℕ) → ((i : ℕ) → i < c → p i ≡ false) → some c p ≡ false
   unfolding some
-  some-false zero h = refl
-  some-false (suc c) h = rw (some-false c (λ i l. h i (omega arith)), h c (omega arith))
+  some_false zero h = refl
+  some_false (suc c) h = rw (some_false c (λ i l. h i (omega arith)), h c (omega arith))
 
   -- the count of numbers from a on goes on from the count below a
   pub count_add : (a b : ℕ) → count_to p (a + b) ≡ count_to p a + count_to (λ j. p (a + j)) b
@@ -169,19 +169,19 @@ module _ (p : ℕ → Bool) where
   count_add a zero = rw add-zero (omega arith)
   count_add a (suc b) = rw add-suc (omega (arith, count_add a b))
 
-pub every-same : (p q : ℕ → Bool) (c : ℕ) → ((j : ℕ) → j < c → p j ≡ q j) → every c p ≡ every c q
+pub every_same : (p q : ℕ → Bool) (c : ℕ) → ((j : ℕ) → j < c → p j ≡ q j) → every c p ≡ every c q
 unfolding every
-every-same p q zero h = refl
-every-same p q (suc c) h = rw (every-same p q c (λ j l. h j (omega arith)), h c (omega arith))
+every_same p q zero h = refl
+every_same p q (suc c) h = rw (every_same p q c (λ j l. h j (omega arith)), h c (omega arith))
 
 pub count_same : (p q : ℕ → Bool) (c : ℕ) → ((j : ℕ) → j < c → p j ≡ q j) → count_to p c ≡ count_to q c
 unfolding count_to
 count_same p q zero h = refl
 count_same p q (suc c) h = rw (count_same p q c (λ j l. h j (omega arith)), h c (omega arith))
 
-pub lowest-same : (p q : ℕ → Bool) (i c : ℕ) → ((j : ℕ) → i ≤ j → j < i + c → p j ≡ q j) → lowest p i c ≡ lowest q i c
-lowest-same p q i c h =
-    let l = lowest-is p i c in
+pub lowest_same : (p q : ℕ → Bool) (i c : ℕ) → ((j : ℕ) → i ≤ j → j < i + c → p j ≡ q j) → lowest p i c ≡ lowest q i c
+lowest_same p q i c h =
+    let l = lowest_is p i c in
     let w = l.within in
     lowest_at q
     (record {
@@ -191,10 +191,10 @@ lowest-same p q i c h =
       found = λ k. sym (h (lowest p i c) l.from k) ∙ l.found k;
     })
 
-pub count-le : (p : ℕ → Bool) (c : ℕ) → count_to p c ≤ c
+pub count_le : (p : ℕ → Bool) (c : ℕ) → count_to p c ≤ c
 unfolding count_to
-count-le p zero = omega arith
-count-le p (suc c) = go (p c) (count-le p c)
+count_le p zero = omega arith
+count_le p (suc c) = go (p c) (count_le p c)
   where
     go : (t : Bool) → count_to p c ≤ c → count_to p c + cond t 1 0 ≤ suc c
     go true h = omega arith
@@ -228,23 +228,23 @@ module _ (p q : ℕ → Bool) (h : (j : ℕ) → p j ≡ true → q j ≡ true) 
 
 -- the next number of a set is further on
 pub further : (p : ℕ → Bool) (c : ℕ) {j r : ℕ} → r ≡ lowest p (j + 1) c → j < r
-further p c {j} e = let f = (lowest-is p (j + 1) c).from in omega arith
+further p c {j} e = let f = (lowest_is p (j + 1) c).from in omega arith
 
 -- some number of p at or above the limit is below c exactly when the search from the limit on finds one
-pub lowest-past : (p : ℕ → Bool) (limit c : ℕ) → ltb (lowest p limit (c - limit)) c ≡ some c (λ j. leb limit j && p j)
-lowest-past p limit c =
+pub lowest_past : (p : ℕ → Bool) (limit c : ℕ) → ltb (lowest p limit (c - limit)) c ≡ some c (λ j. leb limit j && p j)
+lowest_past p limit c =
     alike (ltb r c) (some c (λ j. leb limit j && p j))
     (λ h.
     let l = ltb-true r c h in
     let f = found.from in
-    true-some (λ j. leb limit j && p j) c r l (true_both (leb limit r) (p r) (le-leb limit r f) (found.found (omega arith))))
+    true_some (λ j. leb limit j && p j) c r l (true_both (leb limit r) (p r) (le-leb limit r f) (found.found (omega arith))))
     (λ h.
-    let e = some-true (λ j. leb limit j && p j) c h in
+    let e = some_true (λ j. leb limit j && p j) c h in
     let q = both_true (leb limit e.0) (p e.0) e.2 in
-    lt-ltb r c (omega (arith, e.1, lowest-least p found e.0 (leb-true limit e.0 q.0) q.1)))
+    lt-ltb r c (omega (arith, e.1, lowest_least p found e.0 (leb-true limit e.0 q.0) q.1)))
   where
     r : ℕ
     r = lowest p limit (c - limit)
 
     found : Lowest p limit (c - limit) r
-    found = lowest-is p limit (c - limit)
+    found = lowest_is p limit (c - limit)

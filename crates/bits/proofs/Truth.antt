@@ -63,8 +63,8 @@ alike false true f g = g refl
 alike false false f g = refl
 
 -- no less is not less
-pub leb-not : (a b : ℕ) → leb a b ≡ not (ltb b a)
-leb-not a b = go (dec_lt b a)
+pub leb_not : (a b : ℕ) → leb a b ≡ not (ltb b a)
+leb_not a b = go (dec_lt b a)
   where
     go : Dec (b < a) → leb a b ≡ not (ltb b a)
     go (yes l) = rw (lt-leb a b l, lt-ltb b a l)

@@ -22,7 +22,7 @@ use Rattle.pack.specs.Pack.{GivesPack}
 use Rattle.pack.specs.Question.{counted}
 use Rattle.pack.specs.Record.{lines_of, record_count}
 use Rattle.pack.specs.Rules.{rule_at, usable, free}
-use Rattle.pack.proofs.Promises.{pack-given}
+use Rattle.pack.proofs.Promises.{pack_given}
 use Rattle.yes.specs.declared.check.YesAnswer.TheVariants as yes
 use Rattle.yes.specs.Answers.{GivesYes}
 use Rattle.yes.specs.Computed.{check_yes, yes_number, yes_place}
@@ -164,8 +164,8 @@ its_module n m s ws a taken count first e k =
     (module_taken n m s ws a lent (reason_asked n m s ws a a 16 refl ∙ taken) (sym e))
 
 -- A YES SHEET OF ZEROS: each of its parts is 8 zeros, so many bytes are a length or not
-zero-part : (c i : ℕ) → i * 8 + 8 ≤ c → part (zero_bytes c) i ≡ zero_bytes 8
-zero-part c i l =
+zero_part : (c i : ℕ) → i * 8 + 8 ≤ c → part (zero_bytes c) i ≡ zero_bytes 8
+zero_part c i l =
     let rest : ℕ = c - (i * 8 + 8) in
     let whole : c ≡ i * 8 + (8 + rest) = omega arith in
     let split : zero_bytes c ≡ zero_bytes (i * 8) ++ (zero_bytes 8 ++ zero_bytes rest) =
@@ -180,9 +180,9 @@ zeros_length c = ap (λ (k : ℕ). eqb (k % 8) 0 && leb k 524288) (length-replic
 module _ (n m : ℕ) (s ws : List ℕ) (a b : ℕ) {k : ℕ} (taken : check_question n m s ws a b ≡ Count k)
     (good : good_over (lines_of s) (counted s ws) n (free n) zero_step ≡ true) (goal : free n (In a b) ≡ true) (c : ℕ) where
   -- what is free is known
-  free-known : (ss : List Step) (f : Fact) → free n f ≡ true → known (lines_of s) n ss f ≡ true
+  free_known : (ss : List Step) (f : Fact) → free n f ≡ true → known (lines_of s) n ss f ≡ true
   unfolding known
-  free-known ss f h = rw h
+  free_known ss f h = rw h
 
   zero_good : (i : ℕ) → i < length (zero_bytes c) / 8 → good_at (lines_of s) (counted s ws) n (zero_bytes c) i ≡ true
   unfolding good_at good_over little_endian
@@ -191,9 +191,9 @@ module _ (n m : ℕ) (s ws : List ℕ) (a b : ℕ) {k : ℕ} (taken : check_ques
       let p = both_true (usable (lines_of s) (counted s ws) n zero_step) (premises_known rule (free n)) good in
       let q = both_true (free n rule.one) (free n rule.two) p.1 in
       let earlier = take i (steps_of (zero_bytes c)) in
-      let one = free-known earlier rule.one q.0 in
-      let two = free-known earlier rule.two q.1 in
-      rw (zero-part c i (omega (arith, length-replicate {A = ℕ} c 0)), p.0, one, two)
+      let one = free_known earlier rule.one q.0 in
+      let two = free_known earlier rule.two q.1 in
+      rw (zero_part c i (omega (arith, length-replicate {A = ℕ} c 0)), p.0, one, two)
 
   zeros_given : GivesYes n m s ws a b (zero_bytes c) (cond (length_of c) 0 9) 0
   unfolding check_yes
@@ -202,7 +202,7 @@ module _ (n m : ℕ) (s ws : List ℕ) (a b : ℕ) {k : ℕ} (taken : check_ques
       go : (t : Bool) → length_of c ≡ t → GivesYes n m s ws a b (zero_bytes c) (cond t 0 9) 0
       go true e =
           yes_told_lem n m s ws a b (zero_bytes c) {r = yes.Accepted}
-          (sym (good_accepts n m s ws a b (zero_bytes c) taken (zeros_length c ∙ e) zero_good (free-known (steps_of (zero_bytes c)) (In a b) goal)))
+          (sym (good_accepts n m s ws a b (zero_bytes c) taken (zeros_length c ∙ e) zero_good (free_known (steps_of (zero_bytes c)) (In a b) goal)))
       go false e = yes_told_lem n m s ws a b (zero_bytes c) {r = yes.Length} (rw (taken, zeros_length c ∙ e))
 
 -- WHERE WHAT IS WORKED OUT IS WHAT THE CASE HAS, THE CASE HOLDS
@@ -240,7 +240,7 @@ worked_holds (OnePass q bytes) e = (cc, cc)
 worked_holds (CheckPack n m pack number value) e =
     let k : checked_number (check_pack n m pack) ≡ number = cc in
     let v : checked_value (check_pack n m pack) ≡ value = cc in
-    subst₂ (GivesPack n m pack) k v (pack-given n m pack)
+    subst₂ (GivesPack n m pack) k v (pack_given n m pack)
 worked_holds (CheckYes q sheet number place c) e =
     let r = check_yes q.n q.m q.pack q.marks q.a q.b sheet in
     let k : yes_number r ≡ number = cc in

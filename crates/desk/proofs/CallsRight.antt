@@ -9,13 +9,13 @@ use lib.Dec.{eqb}
 use lib.ListN.{length, take, replicate}
 use borrow.Author.Tests.{eq-eqb}
 use Rattle.marks.specs.Marks.{mark_count}
-use Rattle.marks.proofs.WordLaws.{marks-length, marks_small}
+use Rattle.marks.proofs.WordLaws.{marks_length, marks_small}
 use Rattle.pack.specs.Bytes.{words_bytes, marks_in}
 use Rattle.pack.specs.Question.{counted, Taken}
 use Rattle.pack.specs.Record.{lines_of}
 use Rattle.pack.specs.World.{Follows}
 use Rattle.pack.proofs.BytesLaws.{words_back}
-use Rattle.pack.proofs.GivenLaws.{given-one, given-zero}
+use Rattle.pack.proofs.GivenLaws.{given_one, given_zero}
 use Rattle.pack.proofs.Promises.{question_numbered, taken_admitted}
 use Rattle.yes.specs.Answers.{GivesYes}
 use Rattle.yes.proofs.Promises.{yes_same}
@@ -33,7 +33,7 @@ use Rattle.reasons.specs.Set.{MarksSet, set_rows}
 use Rattle.reasons.specs.Computed.{set_marks, set_number, set_value}
 use Rattle.reasons.specs.Inner.{SetTaken}
 use Rattle.reasons.proofs.OutLaws.{reason_asked}
-use Rattle.reasons.proofs.Promises.{set-numbered, set_taken}
+use Rattle.reasons.proofs.Promises.{set_numbered, set_taken}
 use Rattle.desk.specs.Desk.{GivesModuleC, GivesSetC}
 
 module _ (n m : ℕ) (s marks : List ℕ) (a b : ℕ) where
@@ -69,20 +69,20 @@ read_back : {meant : (ℕ → Bool) → Type 0} {s : List ℕ} {k : ℕ} {after 
 read_back {meant} {s} {k} {after} p =
     let P = p.1.places in
     let same : marks_in after ≡ p.0 =
-    ap marks_in p.2 ∙ words_back p.0 (ap length p.1.are ∙ marks-length P) (λ j l. rw p.1.are (marks_small P j l)) in
+    ap marks_in p.2 ∙ words_back p.0 (ap length p.1.are ∙ marks_length P) (λ j l. rw p.1.are (marks_small P j l)) in
     rw same p.1
 
 -- WHERE THE MODULE'S CALL REFUSES NOTHING, the out bytes, read as marks, mark exactly the module, and so many records as it says
 pub module_call_right : (n m : ℕ) (s marks : List ℕ) (a : ℕ) (out after : List ℕ) (r : ℕ) → GivesModuleC n m s marks a out after (r % 256) (r / 256) → r % 256 ≡ 0 → MarksModule s (marks_in marks) a (r / 256) (marks_in after)
 module_call_right n m s marks a out after r g e =
     read_back
-    (given-zero (after ≡ out) (λ value. (words : List ℕ) × MarksModule s (marks_in marks) a value words × (after ≡ words_bytes words)) (reason_rows n m s (marks_in marks) a a (eqb (length out) 128)) question_numbered (rw e at g))
+    (given_zero (after ≡ out) (λ value. (words : List ℕ) × MarksModule s (marks_in marks) a value words × (after ≡ words_bytes words)) (reason_rows n m s (marks_in marks) a a (eqb (length out) 128)) question_numbered (rw e at g))
 
 -- WHERE THE SET'S CALL REFUSES NOTHING, the same of the printed set
 pub set_call_right : (n m : ℕ) (s marks : List ℕ) (a b : ℕ) (out after : List ℕ) (r : ℕ) → GivesSetC n m s marks a b out after (r % 256) (r / 256) → r % 256 ≡ 0 → MarksSet s (marks_in marks) a b (r / 256) (marks_in after)
 set_call_right n m s marks a b out after r g e =
     read_back
-    (given-zero (after ≡ out) (λ value. (words : List ℕ) × MarksSet s (marks_in marks) a b value words × (after ≡ words_bytes words)) (set_rows n m s (marks_in marks) a b (eqb (length out) 128)) set-numbered (rw e at g))
+    (given_zero (after ≡ out) (λ value. (words : List ℕ) × MarksSet s (marks_in marks) a b value words × (after ≡ words_bytes words)) (set_rows n m s (marks_in marks) a b (eqb (length out) 128)) set_numbered (rw e at g))
 
 -- 7 EXACTLY WHEN THE GOAL DOES NOT FOLLOW, of a question that is taken, with 128 bytes for the set
 pub set_call_seven : (n m : ℕ) (s marks : List ℕ) (a b : ℕ) (out after : List ℕ) (r : ℕ) → GivesSetC n m s marks a b out after (r % 256) (r / 256) → Taken n m s (marks_in marks) a b → length out ≡ 128
@@ -105,6 +105,6 @@ set_call_seven n m s marks a b out after r g t l = (
     compare : {given : List ℕ} (x : SetAnswer) → SetTaken n m s ws a b blank given x
         → (r % 256 ≡ set_number x) × (((r / 256 ≡ set_value x) × (after ≡ out) × (given ≡ blank)) ⊎ (((words : List ℕ) × MarksSet s ws a b (r / 256) words × (after ≡ words_bytes words)) × MarksSet s ws a b (set_value x) given × (r % 256 ≡ 0)))
     compare {given} x done =
-        given-one (after ≡ out) (given ≡ blank) (λ value. (words : List ℕ) × MarksSet s ws a b value words × (after ≡ words_bytes words)) (λ value. MarksSet s ws a b value given) (set_rows n m s ws a b true)
+        given_one (after ≡ out) (given ≡ blank) (λ value. (words : List ℕ) × MarksSet s ws a b value words × (after ≡ words_bytes words)) (λ value. MarksSet s ws a b value given) (set_rows n m s ws a b true)
         (rw (eq-eqb (length out) 128 l) at g)
         (set_taken n m s ws a b blank (reason_asked n m s ws a b 16 refl ∙ (taken_admitted n m s ws a b t).1) x done)

@@ -19,7 +19,7 @@ use Rattle.pack.specs.Question.{counted, asked_rows, GivesQuestion}
 use Rattle.pack.specs.Record.{lines_of, record_count}
 use Rattle.pack.specs.Table.{Row, refuse, Given}
 use Rattle.pack.specs.World.{Follows}
-use Rattle.pack.proofs.GivenLaws.{given-map, given_after}
+use Rattle.pack.proofs.GivenLaws.{given_map, given_after}
 use Rattle.pack.proofs.Promises.{question_numbered, asked_given, question_given}
 use Rattle.pack.proofs.QuestionLaws.{asked}
 use Rattle.passes.specs.Passes.{finished}
@@ -32,7 +32,7 @@ use Rattle.reasons.specs.OutMarks.{reason_rows}
 use Rattle.reasons.specs.Module.{MarksModule, GivesModule}
 use Rattle.reasons.specs.Set.{MarksSet, set_rows, GivesSet}
 use Rattle.reasons.specs.Computed.{set_number, set_value}
-use Rattle.reasons.proofs.Promises.{set-numbered}
+use Rattle.reasons.proofs.Promises.{set_numbered}
 use Rattle.desk.specs.Desk.{desk_code, GivesModuleC, GivesSetC}
 use Rattle.desk.specs.Inner.{PutFound}
 use Rattle.desk.proofs.CodeLaws.{refusal_small, checked_small, set_small, coded}
@@ -121,7 +121,7 @@ module _ (n m : ℕ) (s marks : List ℕ) (out : List ℕ) (hm : length marks �
   module_read a x {blank = blank} {found = found} {after = after} hb g e put =
       coded (GivesModuleC n m s marks a out after) (checked_number x) (checked_value x) (checked_small x) e
       (rw (read, eq-eqb (length out) 128 ho)
-      (given-map (found ≡ blank) (after ≡ out) (λ v. MarksModule s (words_in marks) a v found) (λ v. (words : List ℕ) × MarksModule s (words_in marks) a v words × (after ≡ words_bytes words))
+      (given_map (found ≡ blank) (after ≡ out) (λ v. MarksModule s (words_in marks) a v found) (λ v. (words : List ℕ) × MarksModule s (words_in marks) a v words × (after ≡ words_bytes words))
       (reason_rows n m s (words_in marks) a a true) question_numbered (rw (eq-eqb (length blank) 16 hb) at g) put.1 (λ z q. (found, q, put.0 z))))
 
   pub set_read : (a b : ℕ) (x : SetAnswer) {r : ℕ} {blank found after : List ℕ} → length blank ≡ 16 → GivesSet n m s (words_in marks) a b blank found (set_number x) (set_value x)
@@ -129,5 +129,5 @@ module _ (n m : ℕ) (s marks : List ℕ) (out : List ℕ) (hm : length marks �
   set_read a b x {blank = blank} {found = found} {after = after} hb g e put =
       coded (GivesSetC n m s marks a b out after) (set_number x) (set_value x) (set_small x) e
       (rw (read, eq-eqb (length out) 128 ho)
-      (given-map (found ≡ blank) (after ≡ out) (λ v. MarksSet s (words_in marks) a b v found) (λ v. (words : List ℕ) × MarksSet s (words_in marks) a b v words × (after ≡ words_bytes words))
-      (set_rows n m s (words_in marks) a b true) set-numbered (rw (eq-eqb (length blank) 16 hb) at g) put.1 (λ z q. (found, q, put.0 z))))
+      (given_map (found ≡ blank) (after ≡ out) (λ v. MarksSet s (words_in marks) a b v found) (λ v. (words : List ℕ) × MarksSet s (words_in marks) a b v words × (after ≡ words_bytes words))
+      (set_rows n m s (words_in marks) a b true) set_numbered (rw (eq-eqb (length blank) 16 hb) at g) put.1 (λ z q. (found, q, put.0 z))))

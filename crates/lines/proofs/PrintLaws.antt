@@ -9,7 +9,7 @@ use lib.ListN.{length, take, drop}
 use Rattle.marks.specs.Marks.{marked}
 use Rattle.text.specs.Text.{Outcome, WroteText, list_line, text_of, letters}
 use Rattle.text.specs.Text.Outcome.{refused, refused_at, follows, not_follows}
-use Rattle.text.proofs.LineLaws.{list_line-same, follows_of_marks, not_of_marks}
+use Rattle.text.proofs.LineLaws.{list_line_same, follows_of_marks, not_of_marks}
 use Rattle.pack.specs.declared.check.Refusal.{Refusal}
 use Rattle.pack.specs.declared.check.Refusal.TheVariants.{Sizes, Pack, Record, Marks, Goal}
 use Rattle.pack.specs.Computed.{refusal_number, refusal_place}
@@ -21,7 +21,7 @@ use Rattle.engine.proofs.Promises.{verdict_same}
 use Rattle.reasons.specs.Module.{MarksModule}
 use Rattle.reasons.specs.Set.{MarksSet}
 use Rattle.reasons.proofs.ReachLaws.{module_one}
-use Rattle.reasons.proofs.PrintedLaws.{printed-one}
+use Rattle.reasons.proofs.PrintedLaws.{printed_one}
 use Rattle.lines.specs.declared.input.Input.{Input}
 use Rattle.lines.specs.declared.input.Input.TheVariants.{Refused, Question}
 use Rattle.lines.specs.Input.{input_of}
@@ -29,8 +29,8 @@ use Rattle.lines.specs.Prints.{all_marks, OfRecords, TellsModule, TellsSet, Tell
 use Rattle.lines.specs.Inner.{refusal_outcome}
 
 -- places of records that are the same below the records' end are the same
-same-places : (s : List ℕ) (P Q : ℕ → Bool) → OfRecords s P → OfRecords s Q → ((i : ℕ) → i < length (lines_of s) → P i ≡ Q i) → (i : ℕ) → P i ≡ Q i
-same-places s P Q p q same i = go (dec_lt i (length (lines_of s)))
+same_places : (s : List ℕ) (P Q : ℕ → Bool) → OfRecords s P → OfRecords s Q → ((i : ℕ) → i < length (lines_of s) → P i ≡ Q i) → (i : ℕ) → P i ≡ Q i
+same_places s P Q p q same i = go (dec_lt i (length (lines_of s)))
   where
     go : Dec (i < length (lines_of s)) → P i ≡ Q i
     go (yes l) = same i l
@@ -39,10 +39,10 @@ same-places s P Q p q same i = go (dec_lt i (length (lines_of s)))
 module _ (n m : ℕ) (s ws : List ℕ) (a b : ℕ) where
   -- ONE MODULE, ONE SET: one line of each
   module_line : (word : List ℕ) (M M' : ℕ → Bool) → TellsModule s ws a M → TellsModule s ws a M' → list_line word M ≡ list_line word M'
-  module_line word M M' p q = list_line-same word M M' (λ i _. same-places s M M' p.1 q.1 (module_one (lines_of s) (counted s ws) a M M' p.0 q.0) i)
+  module_line word M M' p q = list_line_same word M M' (λ i _. same_places s M M' p.1 q.1 (module_one (lines_of s) (counted s ws) a M M' p.0 q.0) i)
 
   set_line : (word : List ℕ) (S S' : ℕ → Bool) → TellsSet s ws a b S → TellsSet s ws a b S' → list_line word S ≡ list_line word S'
-  set_line word S S' p q = list_line-same word S S' (λ i _. same-places s S S' p.1 q.1 (printed-one (lines_of s) (counted s ws) a b S p.0 S' q.0) i)
+  set_line word S S' p q = list_line_same word S S' (λ i _. same_places s S S' p.1 q.1 (printed_one (lines_of s) (counted s ws) a b S p.0 S' q.0) i)
 
   -- ONE TEXT of a question
   pub asked_one : (o o' : Outcome) → PrintsAsked n m s ws a b o → PrintsAsked n m s ws a b o' → text_of o ≡ text_of o'
@@ -67,23 +67,23 @@ module _ (n m : ℕ) (s ws : List ℕ) (a b : ℕ) where
 
   module _ {before after : List ℕ} {end : ℕ} where
     -- AN OUTCOME OF EACH SORT: refused
-    refused-not_3 : (number : ℕ) → (number ≡ 0 → ⊥) → (number ≡ 3 → ⊥) → GivesVerdict n m s ws a b number 0 → WroteText (refused number) before after end → WritesThe (PrintsAsked n m s ws a b) before after end
+    refused_not_3 : (number : ℕ) → (number ≡ 0 → ⊥) → (number ≡ 3 → ⊥) → GivesVerdict n m s ws a b number 0 → WroteText (refused number) before after end → WritesThe (PrintsAsked n m s ws a b) before after end
     unfolding PrintsAsked
-    refused-not_3 number some other g w = record { outcome = refused number; is = (g, some, other); text = w }
+    refused_not_3 number some other g w = record { outcome = refused number; is = (g, some, other); text = w }
 
     pub writes_refusal : (why : Refusal) {number place : ℕ} → number ≡ refusal_number why → place ≡ refusal_place why → GivesVerdict n m s ws a b (refusal_number why) (refusal_place why) → WroteText (refusal_outcome number place) before after end → WritesThe (PrintsAsked n m s ws a b) before after end
     unfolding PrintsAsked
     writes_refusal why e f g w = go why g (rw (e, f) at w)
       where
         go : (why : Refusal) → GivesVerdict n m s ws a b (refusal_number why) (refusal_place why) → WroteText (refusal_outcome (refusal_number why) (refusal_place why)) before after end → WritesThe (PrintsAsked n m s ws a b) before after end
-        go Sizes g w = refused-not_3 1 (λ e. omega arith) (λ e. omega arith) g w
-        go Pack g w = refused-not_3 2 (λ e. omega arith) (λ e. omega arith) g w
+        go Sizes g w = refused_not_3 1 (λ e. omega arith) (λ e. omega arith) g w
+        go Pack g w = refused_not_3 2 (λ e. omega arith) (λ e. omega arith) g w
         go (Record i) g w = record { outcome = refused_at i; is = g; text = w }
-        go Marks g w = refused-not_3 4 (λ e. omega arith) (λ e. omega arith) g w
-        go Goal g w = refused-not_3 5 (λ e. omega arith) (λ e. omega arith) g w
+        go Marks g w = refused_not_3 4 (λ e. omega arith) (λ e. omega arith) g w
+        go Goal g w = refused_not_3 5 (λ e. omega arith) (λ e. omega arith) g w
 
     pub writes_too_long : GivesVerdict n m s ws a b 6 0 → WroteText (refused 6) before after end → WritesThe (PrintsAsked n m s ws a b) before after end
-    writes_too_long = refused-not_3 6 (λ e. omega arith) (λ e. omega arith)
+    writes_too_long = refused_not_3 6 (λ e. omega arith) (λ e. omega arith)
 
     -- FOLLOWS, NOT: by the marks of the module and of the set
     pub writes_follows : {c k l : ℕ} {module_words set_words : List ℕ} → GivesVerdict n m s ws a b 0 1 → TellsSteps n m s ws a b c → MarksModule s ws a k module_words → MarksSet s ws a b l set_words

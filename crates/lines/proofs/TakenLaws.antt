@@ -19,12 +19,12 @@ use Rattle.engine.specs.Computed.{verdict_number, verdict_value}
 use Rattle.engine.proofs.Promises.{verdict_same, verdict_refused, verdict_right}
 
 -- no refusal has the number 0
-not-zero : (why : Refusal) → 0 ≡ refusal_number why → ⊥
-not-zero Sizes e = omega arith
-not-zero Pack e = omega arith
-not-zero (Record i) e = omega arith
-not-zero Marks e = omega arith
-not-zero Goal e = omega arith
+not_zero : (why : Refusal) → 0 ≡ refusal_number why → ⊥
+not_zero Sizes e = omega arith
+not_zero Pack e = omega arith
+not_zero (Record i) e = omega arith
+not_zero Marks e = omega arith
+not_zero Goal e = omega arith
 
 admitted_taken : (n m : ℕ) (s ws : List ℕ) (a b : ℕ) → Admitted n m s ws a b → Taken n m s ws a b
 admitted_taken n m s ws a b (k, e) =
@@ -40,7 +40,7 @@ module _ (n m : ℕ) (s ws : List ℕ) (a b : ℕ) {v : ℕ} (g : GivesVerdict n
   admitted = go (check_question n m s ws a b) refl
     where
       go : (q : Checked) → check_question n m s ws a b ≡ q → Admitted n m s ws a b
-      go (Refused why) e = absurd (not-zero why (verdict_same n m s ws a b g (verdict_refused n m s ws a b e)).0)
+      go (Refused why) e = absurd (not_zero why (verdict_same n m s ws a b g (verdict_refused n m s ws a b e)).0)
       go (Count k) e = (k, e)
 
   pub given_taken : Taken n m s ws a b
@@ -51,8 +51,8 @@ module _ (n m : ℕ) (s ws : List ℕ) (a b : ℕ) {v : ℕ} (g : GivesVerdict n
       let q = asked n m s ws a b admitted.1 in
       admitted_taken n m s ws a a (admitted.0, asks n m s ws a a (record { pack = q.pack; marks = q.marks; goal_a = q.goal_a; goal_b = q.goal_a }))
 
-  pub given-follows : v ≡ 1 → Follows (lines_of s) (counted s ws) a b
-  given-follows = (verdict_right n m s ws a b given_taken g).1.0
+  pub given_follows : v ≡ 1 → Follows (lines_of s) (counted s ws) a b
+  given_follows = (verdict_right n m s ws a b given_taken g).1.0
 
-  pub given-not : v ≡ 0 → Follows (lines_of s) (counted s ws) a b → ⊥
-  given-not = (verdict_right n m s ws a b given_taken g).2.0
+  pub given_not : v ≡ 0 → Follows (lines_of s) (counted s ws) a b → ⊥
+  given_not = (verdict_right n m s ws a b given_taken g).2.0

@@ -11,8 +11,8 @@ use borrow.Author.Tests.{eqb-true, eq-eqb, le-leb, lt-leb, not-true}
 use Rattle.bits.specs.Bit.{has}
 use Rattle.bits.specs.Sets.{lowest, count_to, some}
 use Rattle.bits.proofs.Truth.{both_true, true_both, and_no, never, is_no}
-use Rattle.bits.proofs.BitLaws.{has-zero}
-use Rattle.bits.proofs.SetLaws.{Lowest, lowest-is, true-some, some-false, count_add, count_same}
+use Rattle.bits.proofs.BitLaws.{has_zero}
+use Rattle.bits.proofs.SetLaws.{Lowest, lowest_is, true_some, some_false, count_add, count_same}
 use Rattle.marks.specs.Marks.{marked, marks_fit}
 
 module _ (ws : List ℕ) where
@@ -24,7 +24,7 @@ module _ (ws : List ℕ) where
   -- past the words nothing is marked
   pub unmarked_past : (i : ℕ) → length ws ≤ i / 64 → marked ws i ≡ false
   unfolding marked
-  unmarked_past i h = ap (λ (w : ℕ). has w (i % 64)) (get_or-eq_default ws 0 h) ∙ has-zero (i % 64)
+  unmarked_past i h = ap (λ (w : ℕ). has w (i % 64)) (get_or-eq_default ws 0 h) ∙ has_zero (i % 64)
 
   -- the count, one word further
   pub count_word : (w : ℕ) → count_to (marked ws) (64 * (w + 1)) ≡ count_to (marked ws) (64 * w) + count_to (has (get_or ws w 0)) 64
@@ -44,7 +44,7 @@ module _ (ws : List ℕ) where
   -- the search within the word of place q, and where it leads
   module _ (q j : ℕ) (e : j ≡ lowest (has (get_or ws (q / 64) 0)) (q % 64) (64 - q % 64)) where
     in_word : Lowest (has (get_or ws (q / 64) 0)) (q % 64) (64 - q % 64) j
-    in_word = rw e (lowest-is (has (get_or ws (q / 64) 0)) (q % 64) (64 - q % 64))
+    in_word = rw e (lowest_is (has (get_or ws (q / 64) 0)) (q % 64) (64 - q % 64))
 
     pub word_bounds : (q % 64 ≤ j) × (j ≤ 64)
     word_bounds = let w = in_word.within in (in_word.from, omega arith)
@@ -69,7 +69,7 @@ module _ (ws : List ℕ) where
 
   -- the next marked place, as the search has it
   pub next_lowest : (i r : ℕ) → r ≡ lowest (marked ws) i (1024 - i) → Lowest (marked ws) i (1024 - i) r
-  next_lowest i r e = rw e (lowest-is (marked ws) i (1024 - i))
+  next_lowest i r e = rw e (lowest_is (marked ws) i (1024 - i))
 
   -- MARKS: 16 words, and no record at or above the count is marked
   pub record Fit (count : ℕ) : Type 0 where
@@ -84,12 +84,12 @@ module _ (ws : List ℕ) where
       record { sixteen = six; above = λ i l. go six (not-true (some 1024 (λ i. leb count i && marked ws i)) a.1) i l (dec_lt i 1024) }
     where
       go : length ws ≡ 16 → some 1024 (λ i. leb count i && marked ws i) ≡ false → (i : ℕ) → count ≤ i → Dec (i < 1024) → marked ws i ≡ false
-      go six none i l (yes k) = is_no (λ e. never (true-some (λ i. leb count i && marked ws i) 1024 i k (true_both (leb count i) (marked ws i) (le-leb count i l) e)) none)
+      go six none i l (yes k) = is_no (λ e. never (true_some (λ i. leb count i && marked ws i) 1024 i k (true_both (leb count i) (marked ws i) (le-leb count i l) e)) none)
       go six none i l (no k) = unmarked_past i (omega arith)
 
   pub fits : {count : ℕ} → Fit count → marks_fit ws count ≡ true
   unfolding marks_fit
-  fits {count} f = rw (eq-eqb (length ws) 16 f.sixteen, some-false (λ i. leb count i && marked ws i) 1024 (λ i _. go i (dec_lt i count)))
+  fits {count} f = rw (eq-eqb (length ws) 16 f.sixteen, some_false (λ i. leb count i && marked ws i) 1024 (λ i _. go i (dec_lt i count)))
     where
       go : (i : ℕ) → Dec (i < count) → (leb count i && marked ws i) ≡ false
       go i (yes l) = rw (lt-leb count i l)

@@ -7,14 +7,14 @@ use Rattle.bits.specs.Sets.{lowest}
 use Rattle.bits.proofs.Promises.{no_second}
 use Rattle.marks.specs.Marks.{marked, marks_fit, mark_count, marks_of, cut_out}
 
-pub is-marked_fixed : (ws : List ℕ) (i : ℕ) (r r' : Bool) → r ≡ marked ws i → r' ≡ marked ws i → r ≡ r'
-is-marked_fixed ws i r r' = no_second
+pub is_marked_fixed : (ws : List ℕ) (i : ℕ) (r r' : Bool) → r ≡ marked ws i → r' ≡ marked ws i → r ≡ r'
+is_marked_fixed ws i r r' = no_second
 
 pub next_marked_fixed : (ws : List ℕ) (i r r' : ℕ) → r ≡ lowest (marked ws) i (1024 - i) → r' ≡ lowest (marked ws) i (1024 - i) → r ≡ r'
 next_marked_fixed ws i r r' = no_second
 
-pub count-marked_fixed : (ws : List ℕ) (r r' : ℕ) → r ≡ mark_count ws → r' ≡ mark_count ws → r ≡ r'
-count-marked_fixed ws r r' = no_second
+pub count_marked_fixed : (ws : List ℕ) (r r' : ℕ) → r ≡ mark_count ws → r' ≡ mark_count ws → r ≡ r'
+count_marked_fixed ws r r' = no_second
 
 pub marks_fit_fixed : (ws : List ℕ) (count : ℕ) (r r' : Bool) → r ≡ marks_fit ws count → r' ≡ marks_fit ws count → r ≡ r'
 marks_fit_fixed ws count r r' = no_second

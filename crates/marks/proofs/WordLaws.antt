@@ -9,15 +9,15 @@ use lib.Seq.{ext_get_or}
 use Rattle.bits.specs.Bit.{has, row}
 use Rattle.bits.specs.Lists.{listed}
 use Rattle.bits.proofs.BitLaws.{has_ext, has_high}
-use Rattle.bits.proofs.ListLaws.{listed-length, listed_at, fill_on, fill_end}
+use Rattle.bits.proofs.ListLaws.{listed_length, listed_at, fill_on, fill_end}
 use Rattle.bits.proofs.RowLaws.{row_lt, row_has, row_only}
 use Rattle.marks.specs.Marks.{marked, marks_of}
 use Rattle.marks.proofs.MarkLaws.{at_word, unmarked_past}
 
 module _ (P : ℕ → Bool) where
-  pub marks-length : length (marks_of P) ≡ 16
+  pub marks_length : length (marks_of P) ≡ 16
   unfolding marks_of
-  marks-length = listed-length (λ j. row 64 (λ i. P (j * 64 + i))) 16 0
+  marks_length = listed_length (λ j. row 64 (λ i. P (j * 64 + i))) 16 0
 
   -- word j is the row of its 64 places
   marks_word : (j : ℕ) → j < 16 → get_or (marks_of P) j 0 ≡ row 64 (λ i. P (j * 64 + i))
@@ -35,8 +35,8 @@ module _ (P : ℕ → Bool) where
       ∙ row_has 64 (λ k. P (i / 64 * 64 + k)) (i % 64) (omega arith)
       ∙ ap P (omega arith)
 
-  pub marked-past : (i : ℕ) → 1024 ≤ i → marked (marks_of P) i ≡ false
-  marked-past i h = unmarked_past (marks_of P) i (omega (arith, marks-length))
+  pub marked_past : (i : ℕ) → 1024 ≤ i → marked (marks_of P) i ≡ false
+  marked_past i h = unmarked_past (marks_of P) i (omega (arith, marks_length))
 
 -- WORDS THAT ARE AS MANY AND MARK THE SAME PLACES are the same
 pub marks_ext : (r r' : List ℕ) → length r ≡ length r' → ((j : ℕ) → j < length r → get_or r j 0 < 2 ^ 64) → ((j : ℕ) → j < length r → get_or r' j 0 < 2 ^ 64)
@@ -49,15 +49,15 @@ marks_ext r r' e small small' same =
 -- sets of the same places have the same words
 pub marks_alike : (P Q : ℕ → Bool) → ((i : ℕ) → i < 1024 → P i ≡ Q i) → marks_of P ≡ marks_of Q
 marks_alike P Q h =
-    marks_ext (marks_of P) (marks_of Q) (marks-length P ∙ sym (marks-length Q)) (λ j l. marks_small P j (omega (arith, marks-length P))) (λ j l. marks_small Q j (omega (arith, marks-length P)))
-    (λ k l. let i : k < 1024 = omega (arith, marks-length P) in marked_of P k i ∙ h k i ∙ sym (marked_of Q k i))
+    marks_ext (marks_of P) (marks_of Q) (marks_length P ∙ sym (marks_length Q)) (λ j l. marks_small P j (omega (arith, marks_length P))) (λ j l. marks_small Q j (omega (arith, marks_length P)))
+    (λ k l. let i : k < 1024 = omega (arith, marks_length P) in marked_of P k i ∙ h k i ∙ sym (marked_of Q k i))
 
 -- words that mark a set of places mark what they mark
 pub marks_again : (P : ℕ → Bool) (ws : List ℕ) → ws ≡ marks_of P → ws ≡ marks_of (marked ws)
 marks_again P ws e = e ∙ marks_alike P (marked ws) (λ i l. sym (marked_of P i l) ∙ sym (ap (λ (v : List ℕ). marked v i) e))
 
 pub sixteen_again : (ws : List ℕ) → ws ≡ marks_of (marked ws) → length ws ≡ 16
-sixteen_again ws e = ap length e ∙ marks-length (marked ws)
+sixteen_again ws e = ap length e ∙ marks_length (marked ws)
 
 -- SIXTEEN WORDS FILLED ONE BY ONE: the first j are those of P
 pub record Filled (P : ℕ → Bool) (words : List ℕ) (j : ℕ) : Type 0 where

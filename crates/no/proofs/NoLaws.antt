@@ -10,7 +10,7 @@ use lib.ListN.{length}
 use borrow.Author.Tests.{le-ltb, ltb-false, leb-true, le-leb, not-true, not-false}
 use Rattle.bits.specs.Bit.{has}
 use Rattle.bits.proofs.Truth.{both_true, true_both, never, is_no, clash, cond_first, cond_second}
-use Rattle.bits.proofs.SetLaws.{lowest-is, lowest-none, none-lowest, first_none, some-true, true-some}
+use Rattle.bits.proofs.SetLaws.{lowest_is, lowest_none, none_lowest, first_none, some_true, true_some}
 use Rattle.pack.specs.declared.check.Refusal.{Refusal}
 use Rattle.pack.specs.declared.check.Checked.{Checked}
 use Rattle.pack.specs.declared.check.Checked.TheVariants as checked
@@ -20,7 +20,7 @@ use Rattle.pack.specs.World.{World, Is, Obeys, Follows, line_at}
 use Rattle.pack.specs.Computed.{obeys, check_question}
 use Rattle.pack.specs.Record.{lines_of, ValidLine, Valid}
 use Rattle.pack.specs.Question.{counted}
-use Rattle.pack.proofs.WorldLaws.{obeys-line, line-obeys}
+use Rattle.pack.proofs.WorldLaws.{obeys_line, line_obeys}
 use Rattle.no.specs.declared.check.NoAnswer.{NoAnswer}
 use Rattle.no.specs.declared.check.NoAnswer.TheVariants as no
 use Rattle.no.specs.NoSheet.{row_at, rows_of, forbidden, world_of}
@@ -35,8 +35,8 @@ pub rows_few : (m k : ℕ) → m ≤ 8 → k ≤ 64 → rows_of m k ≤ 576
 rows_few m k h l = omega (arith, rows_are m k, mul-le-mul_left m l, mul_comm m k)
 
 -- a length that is a multiple of 8 · (1 + m) is that of its things' rows
-pub whole-rows : (m : ℕ) (sheet : List ℕ) → length sheet % (8 * (1 + m)) ≡ 0 → length sheet ≡ rows_of m (things_by m sheet) * 8
-whole-rows m sheet e =
+pub whole_rows : (m : ℕ) (sheet : List ℕ) → length sheet % (8 * (1 + m)) ≡ 0 → length sheet ≡ rows_of m (things_by m sheet) * 8
+whole_rows m sheet e =
     let k = things_by m sheet in
     let d : k * (8 * (1 + m)) + length sheet % (8 * (1 + m)) ≡ length sheet = div-add-mod' (length sheet) (8 * (1 + m)) in
     let f : k * (8 * (1 + m)) ≡ k * (1 + m) * 8 = ap (λ (v : ℕ). k * v) (mul_comm 8 (1 + m)) ∙ sym (mul_assoc k (1 + m) 8) in
@@ -44,8 +44,8 @@ whole-rows m sheet e =
 
 module _ (n m k : ℕ) (sheet : List ℕ) (few : k ≤ 64) (whole : length sheet ≡ rows_of m k * 8) where
   -- a role below m has its rows in the sheet
-  role-rows : (r : ℕ) → r < m → k + (r * k + k) ≤ rows_of m k
-  role-rows r h =
+  role_rows : (r : ℕ) → r < m → k + (r * k + k) ≤ rows_of m k
+  role_rows r h =
       let l : suc r * k ≤ m * k = mul-le-mul_right k h in
       omega (arith, rows_are m k, suc-mul r k)
 
@@ -53,53 +53,53 @@ module _ (n m k : ℕ) (sheet : List ℕ) (few : k ≤ 64) (whole : length sheet
   things_fit = record { few = few; rows = omega (arith, rows_are m k) }
 
   -- where no row has a forbidden bit, no link leaves the things
-  role-fits : lowest_forbidden n m k sheet ≡ rows_of m k → (r : ℕ) → r < m → RoleFits k sheet r
+  role_fits : lowest_forbidden n m k sheet ≡ rows_of m k → (r : ℕ) → r < m → RoleFits k sheet r
   unfolding lowest_forbidden forbidden
-  role-fits e r h = record {
-    rows = omega (arith, role-rows r h);
+  role_fits e r h = record {
+    rows = omega (arith, role_rows r h);
     inside = λ x y lx ly b. is_no (none x y lx ly b);
   }
     where
       none : (x y : ℕ) → x < k → k ≤ y → y < 64 → has (row_at sheet (k + (r * k + x))) y ≡ true → ⊥
       none x y lx ly b g =
           let i = k + (r * k + x) in
-          let far : i < rows_of m k = omega (arith, role-rows r h) in
-          let clean = lowest-none (forbidden n k sheet) 0 (rows_of m k) (e ∙ sym (zero-add (rows_of m k))) i (omega arith) (omega arith) in
+          let far : i < rows_of m k = omega (arith, role_rows r h) in
+          let clean = lowest_none (forbidden n k sheet) 0 (rows_of m k) (e ∙ sym (zero-add (rows_of m k))) i (omega arith) (omega arith) in
           never
-          (rw (le-ltb i k (omega arith)) (true-some (λ j. leb k j && has (row_at sheet i) j) 64 y b (true_both (leb k y) (has (row_at sheet i) y) (le-leb k y ly) g)))
+          (rw (le-ltb i k (omega arith)) (true_some (λ j. leb k j && has (row_at sheet i) j) 64 y b (true_both (leb k y) (has (row_at sheet i) y) (le-leb k y ly) g)))
           clean
 
-  line-fits : n ≤ 64 → lowest_forbidden n m k sheet ≡ rows_of m k → (l : Line) → ValidLine n m l → LineFits k sheet l
-  line-fits h e (Under a b) v = (omega arith, omega arith)
-  line-fits h e (BothUnder a₁ a₂ b) v = (omega arith, omega arith, omega arith)
-  line-fits h e (UnderSome a r b) v = (omega arith, role-fits e r v.1, omega arith)
-  line-fits h e (SomeUnder r a b) v = (role-fits e r v.0, omega arith, omega arith)
-  line-fits h e (RoleUnder r s) v = (role-fits e r v.0, role-fits e s v.1)
-  line-fits h e (ChainUnder r s t) v = (role-fits e r v.0, role-fits e s v.1, role-fits e t v.2)
-  line-fits h e (ToItself r) v = role-fits e r v
-  line-fits h e NoLine v = tt
+  line_fits : n ≤ 64 → lowest_forbidden n m k sheet ≡ rows_of m k → (l : Line) → ValidLine n m l → LineFits k sheet l
+  line_fits h e (Under a b) v = (omega arith, omega arith)
+  line_fits h e (BothUnder a₁ a₂ b) v = (omega arith, omega arith, omega arith)
+  line_fits h e (UnderSome a r b) v = (omega arith, role_fits e r v.1, omega arith)
+  line_fits h e (SomeUnder r a b) v = (role_fits e r v.0, omega arith, omega arith)
+  line_fits h e (RoleUnder r s) v = (role_fits e r v.0, role_fits e s v.1)
+  line_fits h e (ChainUnder r s t) v = (role_fits e r v.0, role_fits e s v.1, role_fits e t v.2)
+  line_fits h e (ToItself r) v = role_fits e r v
+  line_fits h e NoLine v = tt
 
   pub lines_fit : n ≤ 64 → lowest_forbidden n m k sheet ≡ rows_of m k → (ls : List Line) → Valid n m ls → LinesFit k sheet ls
-  lines_fit h e ls v i l = line-fits h e (line_at ls i) (v i l)
+  lines_fit h e ls v i l = line_fits h e (line_at ls i) (v i l)
 
 -- the search for a forbidden bit that comes to the end of the rows
 pub all_rows : (n m k : ℕ) (sheet : List ℕ) {r : ℕ} → r ≡ lowest_forbidden n m k sheet → rows_of m k ≤ r → lowest_forbidden n m k sheet ≡ rows_of m k
 unfolding lowest_forbidden
 all_rows n m k sheet e h =
-    let w = (lowest-is (forbidden n k sheet) 0 (rows_of m k)).within in
+    let w = (lowest_is (forbidden n k sheet) 0 (rows_of m k)).within in
     omega (arith, zero-add (rows_of m k))
 
 -- the two tests of a world
 pub refuting : (w : World) (a b : ℕ) → refutes w a b ≡ true → (x : ℕ) × (x < w.things) × Is w x a × (w.is_in x b ≡ false)
 unfolding refutes
 refuting w a b h =
-    let e = some-true (λ x. w.is_in x a && not (w.is_in x b)) w.things h in
+    let e = some_true (λ x. w.is_in x a && not (w.is_in x b)) w.things h in
     let p = both_true (w.is_in e.0 a) (not (w.is_in e.0 b)) e.2 in
     (e.0, e.1, p.0, not-true (w.is_in e.0 b) p.1)
 
 pub refuted : (w : World) (a b x : ℕ) → x < w.things → Is w x a → w.is_in x b ≡ false → refutes w a b ≡ true
 unfolding refutes
-refuted w a b x l p q = true-some (λ x. w.is_in x a && not (w.is_in x b)) w.things x l (rw (p, q))
+refuted w a b x l p q = true_some (λ x. w.is_in x a && not (w.is_in x b)) w.things x l (rw (p, q))
 
 module _ (w : World) (ls : List Line) (S : ℕ → Bool) where
   -- place i counts, and its line is broken
@@ -108,14 +108,14 @@ module _ (w : World) (ls : List Line) (S : ℕ → Bool) where
 
   none_broken : length ls ≤ lowest_broken w ls S → Obeys w ls S
   unfolding lowest_broken
-  none_broken h i l s = obeys-line w (line_at ls i) (not-false (obeys w (line_at ls i)) (rw s at (first_none broken_at refl h i l)))
+  none_broken h i l s = obeys_line w (line_at ls i) (not-false (obeys w (line_at ls i)) (rw s at (first_none broken_at refl h i l)))
 
   obeyed : Obeys w ls S → lowest_broken w ls S ≡ length ls
   unfolding lowest_broken
-  obeyed o = none-lowest broken_at 0 (length ls) (λ i g l. at i (omega (arith, zero-add (length ls))) (S i) refl) ∙ zero-add (length ls)
+  obeyed o = none_lowest broken_at 0 (length ls) (λ i g l. at i (omega (arith, zero-add (length ls))) (S i) refl) ∙ zero-add (length ls)
     where
       at : (i : ℕ) → i < length ls → (t : Bool) → S i ≡ t → (t && not (obeys w (line_at ls i))) ≡ false
-      at i l true s = ap not (line-obeys w (line_at ls i) (o i l s))
+      at i l true s = ap not (line_obeys w (line_at ls i) (o i l s))
       at i l false s = refl
 
 -- the answers to a question that is taken, one below the other
@@ -160,7 +160,7 @@ module _ (n m : ℕ) (s ws : List ℕ) (a b : ℕ) (sheet : List ℕ) where
       rw (
         e,
         fit,
-        none-lowest (forbidden n k sheet) 0 (rows_of m k) (λ i g h. clean i (omega (arith, zero-add (rows_of m k)))),
+        none_lowest (forbidden n k sheet) 0 (rows_of m k) (λ i g h. clean i (omega (arith, zero-add (rows_of m k)))),
         zero-add (rows_of m k),
         le-ltb (rows_of m k) (rows_of m k) (omega arith),
         obeyed w (lines_of s) (counted s ws) o,

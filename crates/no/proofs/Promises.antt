@@ -12,7 +12,7 @@ use lib.ListN.{length}
 use borrow.Author.Tests.{ltb-true, ltb-false, leb-true, eqb-true, ne_eqb, eq-eqb, le-leb, not-true, not-false}
 use Rattle.bits.specs.Sets.{lowest}
 use Rattle.bits.proofs.Promises.{no_second}
-use Rattle.bits.proofs.SetLaws.{lowest-is, lowest_at}
+use Rattle.bits.proofs.SetLaws.{lowest_is, lowest_at}
 use Rattle.bits.proofs.Truth.{both_true, true_both, never, is_no}
 use Rattle.pack.specs.declared.check.Refusal.{Refusal}
 use Rattle.pack.specs.declared.check.Refusal.TheVariants.{Sizes, Pack, Record, Marks, Goal}
@@ -23,9 +23,9 @@ use Rattle.pack.specs.Computed.{obeys, check_question, refusal_number, refusal_p
 use Rattle.pack.specs.Record.{lines_of, record_count}
 use Rattle.pack.specs.Table.{Given}
 use Rattle.pack.specs.World.{World, Is, line_at, ObeysLine, Obeys, Follows}
-use Rattle.pack.proofs.GivenLaws.{given-same, lowest-here, lowest-none, given_after, given-zero, told, refusal_of}
+use Rattle.pack.proofs.GivenLaws.{given_same, lowest_here, lowest_none, given_after, given_zero, told, refusal_of}
 use Rattle.pack.proofs.Promises.{question_numbered, question_given, taken_admitted}
-use Rattle.pack.proofs.WorldLaws.{obeys-line, line-obeys}
+use Rattle.pack.proofs.WorldLaws.{obeys_line, line_obeys}
 use Rattle.no.specs.declared.check.NoAnswer.{NoAnswer}
 use Rattle.no.specs.declared.check.NoAnswer.TheVariants as no
 use Rattle.no.specs.NoSheet.{rows_of, things_in, forbidden, world_of}
@@ -38,9 +38,9 @@ module _ (m : ℕ) (sheet : List ℕ) where
   abbrev of : ℕ → Bool
   of k = eqb (length sheet) (8 * (k * (1 + m)))
 
-  things-by : no_length_by m sheet ≡ true → things_in m sheet ≡ things_by m sheet
+  things_by_lem : no_length_by m sheet ≡ true → things_in m sheet ≡ things_by m sheet
   unfolding things_in
-  things-by h =
+  things_by_lem h =
       let k = things_by m sheet in
       let p = both_true (eqb (length sheet % (8 * (1 + m))) 0) (leb 1 k && leb k 64) h in
       let q = both_true (leb 1 k) (leb k 64) p.1 in
@@ -57,16 +57,16 @@ module _ (m : ℕ) (sheet : List ℕ) where
         found = λ _. eq-eqb (length sheet) (8 * (k * (1 + m))) whole;
       }))
 
-  things-none : no_length_by m sheet ≡ false → 64 < things_in m sheet
+  things_none : no_length_by m sheet ≡ false → 64 < things_in m sheet
   unfolding things_in
-  things-none h = go (dec_lt 64 (things_in m sheet))
+  things_none h = go (dec_lt 64 (things_in m sheet))
     where
       go : Dec (64 < things_in m sheet) → 64 < things_in m sheet
       go (yes l) = l
       go (no l) =
           let k = lowest of 1 64 in
           let few : k ≤ 64 = omega (arith, l) in
-          let f = lowest-is of 1 64 in
+          let f = lowest_is of 1 64 in
           let low = f.from in
           let found : length sheet ≡ 8 * (k * (1 + m)) = eqb-true (length sheet) (8 * (k * (1 + m))) (f.found (omega (arith, few))) in
           let whole : length sheet ≡ k * (8 * (1 + m)) = found ∙ mul_left_comm 8 k (1 + m) in
@@ -75,8 +75,8 @@ module _ (m : ℕ) (sheet : List ℕ) where
           never (true_both (eqb (length sheet % (8 * (1 + m))) 0) (leb 1 (things_by m sheet) && leb (things_by m sheet) 64) (eq-eqb _ _ rest)
           (true_both (leb 1 (things_by m sheet)) (leb (things_by m sheet) 64) (le-leb 1 (things_by m sheet) (omega arith)) (le-leb (things_by m sheet) 64 (omega arith)))) h
 
-  things-few : no_length_by m sheet ≡ true → 64 < things_by m sheet → ⊥
-  things-few h l =
+  things_few : no_length_by m sheet ≡ true → 64 < things_by m sheet → ⊥
+  things_few h l =
       let k = things_by m sheet in
       let p = both_true (eqb (length sheet % (8 * (1 + m))) 0) (leb 1 k && leb k 64) h in
       omega (arith, leb-true k 64 (both_true (leb 1 k) (leb k 64) p.1).1)
@@ -139,10 +139,10 @@ module _ (n m : ℕ) (s ws : List ℕ) (a b : ℕ) (sheet : List ℕ) where
       to : (i : ℕ) → i < length ls → broken_at w ls S i ≡ true → Broken i
       to i _ h =
           let p = both_true (S i) (not (obeys w (line_at ls i))) h in
-          (p.0, λ o. never (line-obeys w (line_at ls i) o) (not-true (obeys w (line_at ls i)) p.1))
+          (p.0, λ o. never (line_obeys w (line_at ls i) o) (not-true (obeys w (line_at ls i)) p.1))
 
       from : (i : ℕ) → i < length ls → Broken i → broken_at w ls S i ≡ true
-      from i _ h = true_both (S i) (not (obeys w (line_at ls i))) h.0 (ap not (is_no (λ o. h.1 (obeys-line w (line_at ls i) o))))
+      from i _ h = true_both (S i) (not (obeys w (line_at ls i))) h.0 (ap not (is_no (λ o. h.1 (obeys_line w (line_at ls i) o))))
 
       shown : (v : Bool) → refutes w a b ≡ v → let r = cond v no.Accepted no.NotShown in (r ≡ no.Accepted → Follows ls S a b → ⊥)
           → ((((x : ℕ) → x < k → Is w x a → Is w x b) × (no_number r ≡ 13) × (no_place r ≡ 0)) × Unit {0})
@@ -153,26 +153,26 @@ module _ (n m : ℕ) (s ws : List ℕ) (a b : ℕ) (sheet : List ℕ) where
       go : (p t u v : Bool) → no_length_by m sheet ≡ p → ltb row (rows_of m k) ≡ t → ltb place (length ls) ≡ u → refutes w a b ≡ v
           → let r = cond p (cond t (no.Row row) (cond u (no.Broken place) (cond v no.Accepted no.NotShown))) no.Length in
           (r ≡ no.Accepted → Follows ls S a b → ⊥) → Given (Unit {0}) (row_rows n m (things_in m sheet) ls S a b sheet) accepted (no_number r) (no_place r)
-      go false t u v e f g h q = inl ((things-none m sheet e, refl, refl), tt)
+      go false t u v e f g h q = inl ((things_none m sheet e, refl, refl), tt)
       go true true u v e f g h q =
-          rw (things-by m sheet e)
-          (inr ((λ _ _ d. things-few m sheet e d.0), inl (lowest-here (forbidden n k sheet) (λ i. forbidden n k sheet i ≡ true) (rows_of m k) (λ i _ q. q) (λ i _ q. q) 11 (ltb-true row (rows_of m k) f), tt)))
+          rw (things_by_lem m sheet e)
+          (inr ((λ _ _ d. things_few m sheet e d.0), inl (lowest_here (forbidden n k sheet) (λ i. forbidden n k sheet i ≡ true) (rows_of m k) (λ i _ q. q) (λ i _ q. q) 11 (ltb-true row (rows_of m k) f), tt)))
       go true false true v e f g h q =
-          rw (things-by m sheet e)
+          rw (things_by_lem m sheet e)
           (inr (
-            (λ _ _ d. things-few m sheet e d.0),
+            (λ _ _ d. things_few m sheet e d.0),
             inr (
-              lowest-none (forbidden n k sheet) (λ i. forbidden n k sheet i ≡ true) (rows_of m k) (λ i _ q. q) (λ i _ q. q) (ltb-false row (rows_of m k) f),
-              inl (lowest-here (broken_at w ls S) Broken (length ls) to from 12 (ltb-true place (length ls) g), tt),
+              lowest_none (forbidden n k sheet) (λ i. forbidden n k sheet i ≡ true) (rows_of m k) (λ i _ q. q) (λ i _ q. q) (ltb-false row (rows_of m k) f),
+              inl (lowest_here (broken_at w ls S) Broken (length ls) to from 12 (ltb-true place (length ls) g), tt),
             ),
           ))
       go true false false v e f g h q =
-          rw (things-by m sheet e)
+          rw (things_by_lem m sheet e)
           (inr (
-            (λ _ _ d. things-few m sheet e d.0),
+            (λ _ _ d. things_few m sheet e d.0),
             inr (
-              lowest-none (forbidden n k sheet) (λ i. forbidden n k sheet i ≡ true) (rows_of m k) (λ i _ q. q) (λ i _ q. q) (ltb-false row (rows_of m k) f),
-              inr (lowest-none (broken_at w ls S) Broken (length ls) to from (ltb-false place (length ls) g), shown v h q),
+              lowest_none (forbidden n k sheet) (λ i. forbidden n k sheet i ≡ true) (rows_of m k) (λ i _ q. q) (λ i _ q. q) (ltb-false row (rows_of m k) f),
+              inr (lowest_none (broken_at w ls S) Broken (length ls) to from (ltb-false place (length ls) g), shown v h q),
             ),
           ))
 
@@ -185,7 +185,7 @@ module _ (n m : ℕ) (s ws : List ℕ) (a b : ℕ) (sheet : List ℕ) where
 
   -- one number and one value are given
   pub no_same : {k v k' v' : ℕ} → GivesNo n m s ws a b sheet k v → GivesNo n m s ws a b sheet k' v' → (k ≡ k') × (v ≡ v')
-  no_same = given-same (Unit {0}) accepted (question_rows n m s ws a b ++ row_rows n m (things_in m sheet) (lines_of s) (counted s ws) a b sheet) (λ x y g h. no_second g.0 h.0)
+  no_same = given_same (Unit {0}) accepted (question_rows n m s ws a b ++ row_rows n m (things_in m sheet) (lines_of s) (counted s ws) a b sheet) (λ x y g h. no_second g.0 h.0)
 
   -- NO SECOND RESULT
   pub no_fixed : (r r' : NoAnswer) → GivesNo n m s ws a b sheet (no_told r).0 (no_told r).1 → GivesNo n m s ws a b sheet (no_told r').0 (no_told r').1 → r ≡ r'
@@ -194,7 +194,7 @@ module _ (n m : ℕ) (s ws : List ℕ) (a b : ℕ) (sheet : List ℕ) where
   -- AN ACCEPTED SHEET IS RIGHT: the goal does not follow from the records that count
   pub no_right : {v : ℕ} → GivesNo n m s ws a b sheet 0 v → Follows (lines_of s) (counted s ws) a b → ⊥
   no_right g =
-      (given-zero (Unit {0}) accepted (question_rows n m s ws a b ++ row_rows n m (things_in m sheet) (lines_of s) (counted s ws) a b sheet)
+      (given_zero (Unit {0}) accepted (question_rows n m s ws a b ++ row_rows n m (things_in m sheet) (lines_of s) (counted s ws) a b sheet)
       (omega arith, (omega arith, (omega arith, (omega arith, (omega arith, (omega arith, (omega arith, (omega arith, (omega arith, tt))))))))) g
       ).1
 
@@ -205,8 +205,8 @@ module _ (n m : ℕ) (s ws : List ℕ) (a b : ℕ) (sheet : List ℕ) where
   no_accepts t few clean o x l i q = by (no_length_by m sheet) refl
     where
       by : (fit : Bool) → no_length_by m sheet ≡ fit → GivesNo n m s ws a b sheet 0 0
-      by false e = absurd (omega (arith, things-none m sheet e))
+      by false e = absurd (omega (arith, things_none m sheet e))
       by true e =
-          let k = things-by m sheet e in
+          let k = things_by_lem m sheet e in
           no_told_lem {r = no.Accepted}
           (sym (world_accepts n m s ws a b sheet (taken_admitted n m s ws a b t).1 e (rw k at clean) (rw k at o) x (rw k at l) i q))

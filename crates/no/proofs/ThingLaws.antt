@@ -10,7 +10,7 @@ use borrow.Author.Tests.{eq-eqb, ne_eqb, eqb-true, eqb-false, not-true, not-fals
 use Rattle.bits.specs.Bit.{has}
 use Rattle.bits.specs.Sets.{lowest, every, some}
 use Rattle.bits.proofs.Truth.{and_no, alike, never, is_no}
-use Rattle.bits.proofs.SetLaws.{Lowest, lowest-is, lowest_at, every_true, true-every, every-false, some-true, true-some, some-false}
+use Rattle.bits.proofs.SetLaws.{Lowest, lowest_is, lowest_at, every_true, true_every, every_false, some_true, true_some, some_false}
 use Rattle.bits.proofs.BitLaws.{meets_none, none_meets, contained, contains}
 use Rattle.pack.specs.Computed.{implies}
 use Rattle.pack.proofs.WorldLaws.{implies_true, true_implies}
@@ -19,8 +19,8 @@ use Rattle.pack.proofs.WorldLaws.{implies_true, true_implies}
 pub meet : (x y : ℕ) → x < 2 ^ 64 → not (eqb (bit_and x y) 0) ≡ some 64 (λ j. has x j && has y j)
 meet x y h =
     alike (not (eqb (bit_and x y) 0)) (some 64 both)
-    (λ t. not-false (some 64 both) (is_no (λ f. eqb-false (bit_and x y) 0 (not-true (eqb (bit_and x y) 0) t) (none_meets 64 x y h (λ j l. is_no (λ g. never (true-some both 64 j l g) (not-true (some 64 both) f)))))))
-    (λ s. ap not (ne_eqb (bit_and x y) 0 (λ e. never s (some-false both 64 (λ j l. meets_none x y e j)))))
+    (λ t. not-false (some 64 both) (is_no (λ f. eqb-false (bit_and x y) 0 (not-true (eqb (bit_and x y) 0) t) (none_meets 64 x y h (λ j l. is_no (λ g. never (true_some both 64 j l g) (not-true (some 64 both) f)))))))
+    (λ s. ap not (ne_eqb (bit_and x y) 0 (λ e. never s (some_false both 64 (λ j l. meets_none x y e j)))))
   where
     both : ℕ → Bool
     both j = has x j && has y j
@@ -29,28 +29,28 @@ meet x y h =
 pub inside : (x y : ℕ) → x < 2 ^ 64 → y < 2 ^ 64 → eqb (bit_and x ((2 ^ 64 - 1) - y)) 0 ≡ every 64 (λ j. implies (has x j) (has y j))
 inside x y hx hy =
     alike (eqb (bit_and x ((2 ^ 64 - 1) - y)) 0) (every 64 (λ j. implies (has x j) (has y j)))
-    (λ h. true-every (λ j. implies (has x j) (has y j)) 64 (λ j l. true_implies (has x j) (has y j) (contained 64 x y hx hy (eqb-true (bit_and x ((2 ^ 64 - 1) - y)) 0 h) j l)))
+    (λ h. true_every (λ j. implies (has x j) (has y j)) 64 (λ j l. true_implies (has x j) (has y j) (contained 64 x y hx hy (eqb-true (bit_and x ((2 ^ 64 - 1) - y)) 0 h) j l)))
     (λ h. eq-eqb (bit_and x ((2 ^ 64 - 1) - y)) 0 (contains 64 x y hx hy (λ j l. implies_true (has x j) (has y j) (every_true (λ j. implies (has x j) (has y j)) 64 h j l))))
 
 -- 64 bits, or those of the k things alone: nothing is said past them
-pub every-things : (p : ℕ → Bool) (k : ℕ) → k ≤ 64 → ((j : ℕ) → k ≤ j → j < 64 → p j ≡ true) → every 64 p ≡ every k p
-every-things p k h f =
+pub every_things : (p : ℕ → Bool) (k : ℕ) → k ≤ 64 → ((j : ℕ) → k ≤ j → j < 64 → p j ≡ true) → every 64 p ≡ every k p
+every_things p k h f =
     alike (every 64 p) (every k p)
-    (λ e. true-every p k (λ j l. every_true p 64 e j (omega arith)))
-    (λ e. true-every p 64 (λ j l. go j l e (dec_lt j k)))
+    (λ e. true_every p k (λ j l. every_true p 64 e j (omega arith)))
+    (λ e. true_every p 64 (λ j l. go j l e (dec_lt j k)))
   where
     go : (j : ℕ) → j < 64 → every k p ≡ true → Dec (j < k) → p j ≡ true
     go j l e (yes q) = every_true p k e j q
     go j l e (no q) = f j (omega arith) l
 
-pub some-things : (p q : ℕ → Bool) (k : ℕ) → k ≤ 64 → ((j : ℕ) → j < k → p j ≡ q j) → ((j : ℕ) → k ≤ j → p j ≡ false) → some 64 p ≡ some k q
-some-things p q k h e f =
+pub some_things : (p q : ℕ → Bool) (k : ℕ) → k ≤ 64 → ((j : ℕ) → j < k → p j ≡ q j) → ((j : ℕ) → k ≤ j → p j ≡ false) → some 64 p ≡ some k q
+some_things p q k h e f =
     alike (some 64 p) (some k q)
-    (λ s. let w = some-true p 64 s in at w.0 w.2 (dec_lt w.0 k))
-    (λ s. let w = some-true q k s in let l = w.1 in true-some p 64 w.0 (omega arith) (e w.0 w.1 ∙ w.2))
+    (λ s. let w = some_true p 64 s in at w.0 w.2 (dec_lt w.0 k))
+    (λ s. let w = some_true q k s in let l = w.1 in true_some p 64 w.0 (omega arith) (e w.0 w.1 ∙ w.2))
   where
     at : (j : ℕ) → p j ≡ true → Dec (j < k) → some k q ≡ true
-    at j s (yes l) = true-some q k j l (sym (e j l) ∙ s)
+    at j s (yes l) = true_some q k j l (sym (e j l) ∙ s)
     at j s (no l) = never s (f j (omega arith))
 
 -- a walk over the set bits of a word w, which takes bit after bit off: each bit before y that is set is ok, the rest has
@@ -59,9 +59,9 @@ module _ (w : ℕ) (ok : ℕ → Bool) where
   abbrev pub OkBefore : ℕ → ℕ → Type 0
   OkBefore rest y = ((j : ℕ) → j < y → implies (has w j) (ok j) ≡ true) × ((j : ℕ) → y ≤ j → has rest j ≡ has w j) × Lowest (has rest) 0 64 y
 
-  pub pass-start : {r : ℕ} → r ≡ lowest (has w) 0 64 → OkBefore w r
-  pass-start {r} e =
-      let f : Lowest (has w) 0 64 r = rw e (lowest-is (has w) 0 64) in
+  pub pass_start : {r : ℕ} → r ≡ lowest (has w) 0 64 → OkBefore w r
+  pass_start {r} e =
+      let f : Lowest (has w) 0 64 r = rw e (lowest_is (has w) 0 64) in
       ((λ j h. true_implies (has w j) (ok j) (λ t. never t (f.none j (omega arith) h))), (λ j h. refl), f)
 
   pub pass_bit : (rest y : ℕ) → y < 64 → OkBefore rest y → has w y ≡ true
@@ -72,7 +72,7 @@ module _ (w : ℕ) (ok : ℕ → Bool) where
       ((λ j k. true_implies (has w j) (ok j) (λ t. at j k t (dec_lt j y) (dec_lt y j)), (λ j k. later j (omega (arith, past_y))), f), past_y)
     where
       f : Lowest (has next) 0 64 r
-      f = rw e (lowest-is (has next) 0 64)
+      f = rw e (lowest_is (has next) 0 64)
 
       -- what is left: the bits of the rest but y
       left : (j : ℕ) → has next j ≡ (has rest j && not (eqb y j))
@@ -95,8 +95,8 @@ module _ (w : ℕ) (ok : ℕ → Bool) where
       at j k t (no a) (no b) = let same : y ≡ j = omega arith in ap ok (sym same) ∙ o
 
   pub pass_end : (k rest y : ℕ) → k ≤ 64 → 64 ≤ y → OkBefore rest y → true ≡ every k (λ j. implies (has w j) (ok j))
-  pass_end k rest y h l p = sym (true-every (λ j. implies (has w j) (ok j)) k (λ j i. p.0 j (omega arith)))
+  pass_end k rest y h l p = sym (true_every (λ j. implies (has w j) (ok j)) k (λ j i. p.0 j (omega arith)))
 
   pub pass_fails : (k y : ℕ) → y < k → has w y ≡ true → ok y ≡ false → false ≡ every k (λ j. implies (has w j) (ok j))
   unfolding implies
-  pass_fails k y h t o = sym (every-false (λ j. implies (has w j) (ok j)) k y h (rw (t, o)))
+  pass_fails k y h t o = sym (every_false (λ j. implies (has w j) (ok j)) k y h (rw (t, o)))

@@ -28,19 +28,19 @@ gives_one (refuse_at number count P) {v = v} {v' = v'} g h = (g.0 ∙ sym h.0, s
     same (no l) (no d) = omega arith
 
 -- THERE IS ONE ANSWER: two that are given by the same rows have one number, and are refused with one value, or both come back otherwise, with 0
-pub given-one : (kept kept' : Type 0) (otherwise otherwise' : ℕ → Type 0) (rows : List Row) {k v k' v' : ℕ}
+pub given_one : (kept kept' : Type 0) (otherwise otherwise' : ℕ → Type 0) (rows : List Row) {k v k' v' : ℕ}
     → Given kept rows otherwise k v → Given kept' rows otherwise' k' v' → (k ≡ k') × (((v ≡ v') × kept × kept') ⊎ (otherwise v × otherwise' v' × (k ≡ 0)))
-given-one kept kept' otherwise otherwise' [] g h = (g.0 ∙ sym h.0, inr (g.1, h.1, g.0))
-given-one kept kept' otherwise otherwise' (row ∷ rows) (inl g) (inl h) = let s = gives_one row g.0 h.0 in (s.0, inl (s.1, g.1, h.1))
-given-one kept kept' otherwise otherwise' (row ∷ rows) (inl g) (inr h) = absurd (h.0 _ _ g.0)
-given-one kept kept' otherwise otherwise' (row ∷ rows) (inr g) (inl h) = absurd (g.0 _ _ h.0)
-given-one kept kept' otherwise otherwise' (row ∷ rows) (inr g) (inr h) = given-one kept kept' otherwise otherwise' rows g.1 h.1
+given_one kept kept' otherwise otherwise' [] g h = (g.0 ∙ sym h.0, inr (g.1, h.1, g.0))
+given_one kept kept' otherwise otherwise' (row ∷ rows) (inl g) (inl h) = let s = gives_one row g.0 h.0 in (s.0, inl (s.1, g.1, h.1))
+given_one kept kept' otherwise otherwise' (row ∷ rows) (inl g) (inr h) = absurd (h.0 _ _ g.0)
+given_one kept kept' otherwise otherwise' (row ∷ rows) (inr g) (inl h) = absurd (g.0 _ _ h.0)
+given_one kept kept' otherwise otherwise' (row ∷ rows) (inr g) (inr h) = given_one kept kept' otherwise otherwise' rows g.1 h.1
 
 -- where the value that comes back otherwise is one
-pub given-same : (kept : Type 0) (otherwise : ℕ → Type 0) (rows : List Row) {k v k' v' : ℕ}
+pub given_same : (kept : Type 0) (otherwise : ℕ → Type 0) (rows : List Row) {k v k' v' : ℕ}
     → ((x y : ℕ) → otherwise x → otherwise y → x ≡ y) → Given kept rows otherwise k v → Given kept rows otherwise k' v' → (k ≡ k') × (v ≡ v')
-given-same kept otherwise rows {v = v} {v' = v'} one g h =
-    let s = given-one kept kept otherwise otherwise rows g h in
+given_same kept otherwise rows {v = v} {v' = v'} one g h =
+    let s = given_one kept kept otherwise otherwise rows g h in
     (s.0, ⊎_elim (λ e. e.0) (λ e. one v v' e.0 e.1) s.1)
 
 -- a row for a test that is yes does not apply
@@ -49,38 +49,38 @@ passes e _ _ h = never e h.0
 
 -- the row of the lowest, by a search for it
 module _ (p : ℕ → Bool) (P : ℕ → Type 0) (c : ℕ) (to : (i : ℕ) → i < c → p i ≡ true → P i) (from : (i : ℕ) → i < c → P i → p i ≡ true) where
-  pub lowest-here : (number : ℕ) → lowest p 0 c < c → Gives (refuse_at number c P) number (lowest p 0 c)
-  lowest-here number l =
+  pub lowest_here : (number : ℕ) → lowest p 0 c < c → Gives (refuse_at number c P) number (lowest p 0 c)
+  lowest_here number l =
       let f = first_is p refl l in
       (refl, l, to (lowest p 0 c) l f.here, λ i h q. never (from i (omega arith) q) (f.before i h))
 
-  pub lowest-none : {number : ℕ} → c ≤ lowest p 0 c → (k v : ℕ) → Gives (refuse_at number c P) k v → ⊥
-  lowest-none l _ i h = never (from i h.1 h.2) (first_none p refl l i h.1)
+  pub lowest_none : {number : ℕ} → c ≤ lowest p 0 c → (k v : ℕ) → Gives (refuse_at number c P) k v → ⊥
+  lowest_none l _ i h = never (from i h.1 h.2) (first_none p refl l i h.1)
 
 -- the number of a row, and that every row has one of the table's
 abbrev number : Row → ℕ
 number (refuse_with k applies v) = k
 number (refuse_at k count P) = k
 
-gives-number : (row : Row) (k v : ℕ) → Gives row k v → k ≡ number row
-gives-number (refuse_with k applies v) _ _ g = g.1
-gives-number (refuse_at k count P) _ _ g = g.0
+gives_number : (row : Row) (k v : ℕ) → Gives row k v → k ≡ number row
+gives_number (refuse_with k applies v) _ _ g = g.1
+gives_number (refuse_at k count P) _ _ g = g.0
 
 abbrev pub Numbered : List Row → Type 0
 Numbered [] = Unit {0}
 Numbered (row ∷ rows) = (0 < number row) × Numbered rows
 
 -- 0 IS GIVEN only where no row applies
-pub given-zero : (kept : Type 0) (otherwise : ℕ → Type 0) (rows : List Row) → Numbered rows → {v : ℕ} → Given kept rows otherwise 0 v → otherwise v
-given-zero kept otherwise [] n g = g.1
-given-zero kept otherwise (row ∷ rows) n {v} (inl g) = absurd (omega (arith, n.0, gives-number row 0 v g.0))
-given-zero kept otherwise (row ∷ rows) n (inr g) = given-zero kept otherwise rows n.1 g.1
+pub given_zero : (kept : Type 0) (otherwise : ℕ → Type 0) (rows : List Row) → Numbered rows → {v : ℕ} → Given kept rows otherwise 0 v → otherwise v
+given_zero kept otherwise [] n g = g.1
+given_zero kept otherwise (row ∷ rows) n {v} (inl g) = absurd (omega (arith, n.0, gives_number row 0 v g.0))
+given_zero kept otherwise (row ∷ rows) n (inr g) = given_zero kept otherwise rows n.1 g.1
 
 -- THE SAME ROWS, with something else kept by a refusal and something else come back otherwise
-pub given-map : (kept kept' : Type 0) (otherwise otherwise' : ℕ → Type 0) (rows : List Row) → Numbered rows → {k v : ℕ} → Given kept rows otherwise k v → ((k ≡ 0 → ⊥) → kept') → (k ≡ 0 → otherwise v → otherwise' v) → Given kept' rows otherwise' k v
-given-map kept kept' otherwise otherwise' [] n g refused back = (g.0, back g.0 g.1)
-given-map kept kept' otherwise otherwise' (row ∷ rows) n {k} {v} (inl g) refused back = inl (g.0, refused (λ z. omega (arith, n.0, gives-number row k v g.0)))
-given-map kept kept' otherwise otherwise' (row ∷ rows) n (inr g) refused back = inr (g.0, given-map kept kept' otherwise otherwise' rows n.1 g.1 refused back)
+pub given_map : (kept kept' : Type 0) (otherwise otherwise' : ℕ → Type 0) (rows : List Row) → Numbered rows → {k v : ℕ} → Given kept rows otherwise k v → ((k ≡ 0 → ⊥) → kept') → (k ≡ 0 → otherwise v → otherwise' v) → Given kept' rows otherwise' k v
+given_map kept kept' otherwise otherwise' [] n g refused back = (g.0, back g.0 g.1)
+given_map kept kept' otherwise otherwise' (row ∷ rows) n {k} {v} (inl g) refused back = inl (g.0, refused (λ z. omega (arith, n.0, gives_number row k v g.0)))
+given_map kept kept' otherwise otherwise' (row ∷ rows) n (inr g) refused back = inr (g.0, given_map kept kept' otherwise otherwise' rows n.1 g.1 refused back)
 
 refusal_some : (why : Refusal) → 0 < refusal_number why
 refusal_some Sizes = omega arith
@@ -97,7 +97,7 @@ module _ (kept : Type 0) (otherwise : ℕ → Type 0) {k v : ℕ} where
       → Given kept (rows ++ more) otherwise k v
   given_after [] more count n (Count j) g refused taken = taken j refl
   given_after [] more count n (Refused why) g refused taken = absurd (omega (arith, refusal_some why, g.0))
-  given_after (row ∷ rows) more count n (Count j) (inl g) refused taken = absurd (omega (arith, n.0, gives-number row 0 j g.0))
+  given_after (row ∷ rows) more count n (Count j) (inl g) refused taken = absurd (omega (arith, n.0, gives_number row 0 j g.0))
   given_after (row ∷ rows) more count n (Refused why) (inl g) refused taken = let r = refused why refl in inl (rw (r.0, r.1) g.0, r.2)
   given_after (row ∷ rows) more count n (Count j) (inr g) refused taken = inr (g.0, given_after rows more count n.1 (Count j) g.1 refused taken)
   given_after (row ∷ rows) more count n (Refused why) (inr g) refused taken = inr (g.0, given_after rows more count n.1 (Refused why) g.1 refused taken)

@@ -30,9 +30,9 @@ module _ (n m : ℕ) (s : List ℕ) where
 
   -- a pack that is counted has right sizes and length, every record keeps its rules, and the count is the number of records
   pub record Accepted (k : ℕ) : Type 0 where
-    pub n-some : 1 ≤ n
-    pub n-most : n ≤ 64
-    pub m-most : m ≤ 8
+    pub n_some : 1 ≤ n
+    pub n_most : n ≤ 64
+    pub m_most : m ≤ 8
     pub whole : length s % 8 ≡ 0
     pub size : length s ≤ 8192
     pub all : (i : ℕ) → i < record_count s → keeps_at n m s i ≡ true
@@ -50,9 +50,9 @@ module _ (n m : ℕ) (s : List ℕ) where
       let d = both_true (eqb (length s % 8) 0) (leb (length s) 8192) q.0 in
       let counts = t.1 in
       record {
-        n-some = leb-true 1 n b.0;
-        n-most = leb-true n 64 b.1;
-        m-most = leb-true m 8 a.1;
+        n_some = leb-true 1 n b.0;
+        n_most = leb-true n 64 b.1;
+        m_most = leb-true m 8 a.1;
         whole = eqb-true _ _ d.0;
         size = leb-true _ _ d.1;
         all = λ i h. not-false (keeps_at n m s i) (first_none unkept refl (ltb-false (lowest_unkept n m s) (record_count s) t.0) i h);
@@ -71,9 +71,9 @@ module _ (n m : ℕ) (s : List ℕ) where
         found = λ h. absurd (omega arith);
       }) in
       rw (
-        le-leb 1 n a.n-some,
-        le-leb n 64 a.n-most,
-        le-leb m 8 a.m-most,
+        le-leb 1 n a.n_some,
+        le-leb n 64 a.n_most,
+        le-leb m 8 a.m_most,
         eq-eqb (length s % 8) 0 a.whole,
         le-leb (length s) 8192 a.size,
         le-ltb (lowest_unkept n m s) (record_count s) (omega arith),

@@ -18,15 +18,15 @@ use Rattle.pack.specs.Table.{refuse, Given}
 use Rattle.pack.specs.Pack.{sizes_fit, length_fits, pack_rows, GivesPack}
 use Rattle.pack.specs.Question.{goal_fits, asked_rows, GivesQuestion, Taken}
 use Rattle.pack.specs.Computed.{lowest_unkept, check_records, check_pack, check_counted, after_pack, check_question, Admitted, refusal_number, refusal_place, checked_number, checked_value}
-use Rattle.pack.proofs.GivenLaws.{given-same, passes, lowest-here, lowest-none, given_after, checked_told_lem}
+use Rattle.pack.proofs.GivenLaws.{given_same, passes, lowest_here, lowest_none, given_after, checked_told_lem}
 use Rattle.pack.proofs.PackLaws.{accepted}
 use Rattle.pack.specs.Answers.{checked_told}
 
 -- THE PACK CHECK
 module _ (n m : ℕ) (s : List ℕ) where
-  pub pack-given : GivesPack n m s (checked_number (check_pack n m s)) (checked_value (check_pack n m s))
+  pub pack_given : GivesPack n m s (checked_number (check_pack n m s)) (checked_value (check_pack n m s))
   unfolding check_pack check_records
-  pack-given = go (sizes_fit n m) (length_fits s) (ltb k c) refl refl refl
+  pack_given = go (sizes_fit n m) (length_fits s) (ltb k c) refl refl refl
     where
       c : ℕ
       c = record_count s
@@ -42,25 +42,25 @@ module _ (n m : ℕ) (s : List ℕ) where
       go false q t e f g = inl ((e, refl, refl), tt)
       go true false t e f g = inr (passes e, inl ((f, refl, refl), tt))
       go true true true e f g =
-          inr (passes e, inr (passes f, inl (lowest-here unkept (λ i. keeps_at n m s i ≡ false) c (λ i _ h. not-true (keeps_at n m s i) h) (λ i _ h. ap not h) 3 (ltb-true k c g), tt)))
+          inr (passes e, inr (passes f, inl (lowest_here unkept (λ i. keeps_at n m s i ≡ false) c (λ i _ h. not-true (keeps_at n m s i) h) (λ i _ h. ap not h) 3 (ltb-true k c g), tt)))
       go true true false e f g =
-          inr (passes e, inr (passes f, inr (lowest-none unkept (λ i. keeps_at n m s i ≡ false) c (λ i _ h. not-true (keeps_at n m s i) h) (λ i _ h. ap not h) (ltb-false k c g), (refl, refl))))
+          inr (passes e, inr (passes f, inr (lowest_none unkept (λ i. keeps_at n m s i ≡ false) c (λ i _ h. not-true (keeps_at n m s i) h) (λ i _ h. ap not h) (ltb-false k c g), (refl, refl))))
 
   pub pack_told : {r : Checked} → r ≡ check_pack n m s → GivesPack n m s (checked_number r) (checked_value r)
-  pack_told e = rw e pack-given
+  pack_told e = rw e pack_given
 
   -- NO SECOND RESULT
   pub check_pack_fixed : (r r' : Checked) → GivesPack n m s (checked_told r).0 (checked_told r).1 → GivesPack n m s (checked_told r').0 (checked_told r').1 → r ≡ r'
-  check_pack_fixed r r' p q = let e = given-same (Unit {0}) (λ value. value ≡ record_count s) (pack_rows n m s) (λ x y. no_second) p q in checked_told_lem r r' e.0 e.1
+  check_pack_fixed r r' p q = let e = given_same (Unit {0}) (λ value. value ≡ record_count s) (pack_rows n m s) (λ x y. no_second) p q in checked_told_lem r r' e.0 e.1
 
-  pub pack-is : {r : Checked} → GivesPack n m s (checked_number r) (checked_value r) → r ≡ check_pack n m s
-  pack-is {r} p = check_pack_fixed r (check_pack n m s) p pack-given
+  pub pack_is : {r : Checked} → GivesPack n m s (checked_number r) (checked_value r) → r ≡ check_pack n m s
+  pack_is {r} p = check_pack_fixed r (check_pack n m s) p pack_given
 
 -- THE QUESTION CHECK, where the marks fit or do not
 module _ (n m : ℕ) (s : List ℕ) (fit : Bool) (a b : ℕ) where
   pub asked_given : let r = after_pack (check_pack n m s) n fit a b in Given (Unit {0}) (asked_rows n m s fit a b) (λ value. value ≡ record_count s) (checked_number r) (checked_value r)
   asked_given =
-      given_after (Unit {0}) (λ value. value ≡ record_count s) (pack_rows n m s) (refuse 4 (fit ≡ false) ∷ refuse 5 (goal_fits n a b ≡ false) ∷ []) (record_count s) (omega arith, (omega arith, (omega arith, tt))) (check_pack n m s) (pack-given n m s)
+      given_after (Unit {0}) (λ value. value ≡ record_count s) (pack_rows n m s) (refuse 4 (fit ≡ false) ∷ refuse 5 (goal_fits n a b ≡ false) ∷ []) (record_count s) (omega arith, (omega arith, (omega arith, tt))) (check_pack n m s) (pack_given n m s)
       (λ why e. rw e (refl, refl, tt))
       (λ k e. rw e (go fit (goal_fits n a b) refl refl k (accepted n m s e).count))
     where
@@ -71,7 +71,7 @@ module _ (n m : ℕ) (s : List ℕ) (fit : Bool) (a b : ℕ) where
       go true true e f k h = inr (passes e, inr (passes f, (refl, h)))
 
   pub asked_is : {r : Checked} → Given (Unit {0}) (asked_rows n m s fit a b) (λ value. value ≡ record_count s) (checked_number r) (checked_value r) → r ≡ after_pack (check_pack n m s) n fit a b
-  asked_is {r} p = let e = given-same (Unit {0}) (λ value. value ≡ record_count s) (asked_rows n m s fit a b) (λ x y. no_second) p asked_given in checked_told_lem r _ e.0 e.1
+  asked_is {r} p = let e = given_same (Unit {0}) (λ value. value ≡ record_count s) (asked_rows n m s fit a b) (λ x y. no_second) p asked_given in checked_told_lem r _ e.0 e.1
 
 -- the question's rows have numbers of the table
 abbrev pub QuestionNumbered : Type 0

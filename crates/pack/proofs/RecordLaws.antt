@@ -9,7 +9,7 @@ use lib.Dec.{eqb, ltb}
 use lib.ListN.{length, get_or}
 use borrow.Author.Tests.{ltb-true}
 use Rattle.bits.proofs.Truth.{both_true, never}
-use Rattle.bits.proofs.ListLaws.{listed-length, listed_at}
+use Rattle.bits.proofs.ListLaws.{listed_length, listed_at}
 use Rattle.pack.specs.declared.line.Line.{Line}
 use Rattle.pack.specs.declared.line.Line.TheVariants.{Under, BothUnder, UnderSome, SomeUnder, RoleUnder, ChainUnder, ToItself, NoLine}
 use Rattle.pack.specs.World.{line_at}
@@ -19,7 +19,7 @@ use Rattle.pack.specs.Record.{line_of, line_in, keeps, keeps_in, keeps_at, line_
 -- the lines of a pack are those of its records
 pub lines_length : (s : List ℕ) → length (lines_of s) ≡ record_count s
 unfolding lines_of
-lines_length s = listed-length (line_at_place s) (record_count s) 0
+lines_length s = listed_length (line_at_place s) (record_count s) 0
 
 pub lines_at : (s : List ℕ) (i : ℕ) → i < record_count s → line_at (lines_of s) i ≡ line_at_place s i
 unfolding lines_of line_at
@@ -46,8 +46,8 @@ case : (P : Line → Type 0) (t : Bool) {k k' : Bool} {l l' : Line} → (k ≡ t
 case P true f g h = f h
 case P false f g h = g h
 
-keeps-valid : (n m kind a b c : ℕ) → keeps n m kind a b c ≡ true → ValidLine n m (line_of kind a b c)
-keeps-valid n m kind a b c =
+keeps_valid : (n m kind a b c : ℕ) → keeps n m kind a b c ≡ true → ValidLine n m (line_of kind a b c)
+keeps_valid n m kind a b c =
     case (ValidLine n m) (eqb kind 1) {l = Under a b} (λ h. let p = two h in (p.0, p.1))
     (case (ValidLine n m) (eqb kind 2) {l = BothUnder a b c} three
     (case (ValidLine n m) (eqb kind 3) {l = UnderSome a b c} three
@@ -62,11 +62,11 @@ unfolding keeps_in line_in
 lines_valid n m s all i h =
     let l : i < record_count s = omega (arith, lines_length s) in
     let p = part s i in
-    rw (lines_at s i l) (keeps-valid n m (get_or p 0 0) (get_or p 1 0) (get_or p 2 0) (get_or p 3 0) (all i l))
+    rw (lines_at s i l) (keeps_valid n m (get_or p 0 0) (get_or p 1 0) (get_or p 2 0) (get_or p 3 0) (all i l))
 
 -- lines that keep to the sizes keep to the largest
-pub valid-most : {n m : ℕ} → n ≤ 64 → m ≤ 8 → (ls : List Line) → Valid n m ls → Valid 64 8 ls
-valid-most {n} {m} h k ls valid i there = most (line_at ls i) (valid i there)
+pub valid_most : {n m : ℕ} → n ≤ 64 → m ≤ 8 → (ls : List Line) → Valid n m ls → Valid 64 8 ls
+valid_most {n} {m} h k ls valid i there = most (line_at ls i) (valid i there)
   where
     most : (l : Line) → ValidLine n m l → ValidLine 64 8 l
     most (Under a b) v = omega arith

@@ -10,7 +10,7 @@ use lib.Pow.{pow_pos}
 use lib.Seq.{get_or-append-add}
 use Rattle.bits.specs.Bit.{has, row}
 use Rattle.bits.specs.Lists.{listed}
-use Rattle.bits.proofs.ListLaws.{listed-length, listed_at}
+use Rattle.bits.proofs.ListLaws.{listed_length, listed_at}
 use Rattle.bits.proofs.RowLaws.{row_lt, row_has}
 use Rattle.pack.specs.declared.line.Line.{Line}
 use Rattle.pack.specs.declared.line.Fact.{Fact}
@@ -32,21 +32,21 @@ module _ (n : ℕ) (f : ℕ → ℕ → ℕ) where
   blocks_length : (c i : ℕ) → length (blocks c i) ≡ c * n
   unfolding blocks listed flatten
   blocks_length zero i = rw zero-mul
-  blocks_length (suc c) i = rw (length-append, suc-mul) (omega (arith, listed-length (f i) n 0, blocks_length c (i + 1)))
+  blocks_length (suc c) i = rw (length-append, suc-mul) (omega (arith, listed_length (f i) n 0, blocks_length c (i + 1)))
 
   blocks_at : (c i r x : ℕ) → r < c → x < n → get_or (blocks c i) (r * n + x) 0 ≡ f (i + r) x
   unfolding blocks listed flatten
   blocks_at zero i r x h g = absurd (omega arith)
   blocks_at (suc c) i zero x h g =
       let e : zero * n + x ≡ x = rw zero-mul (omega arith) in
-      let l = listed-length (f i) n 0 in
+      let l = listed_length (f i) n 0 in
       ap (λ (j : ℕ). get_or (listed n 0 (f i) ++ blocks c (i + 1)) j 0) e
       ∙ get_or-append (listed n 0 (f i)) (blocks c (i + 1)) 0 x (omega arith)
       ∙ listed_at (f i) 0 n 0 x g
       ∙ ap (f i) (zero-add x)
       ∙ ap (λ (j : ℕ). f j x) (omega arith)
   blocks_at (suc c) i (suc r) x h g =
-      let l = listed-length (f i) n 0 in
+      let l = listed_length (f i) n 0 in
       let e : suc r * n + x ≡ length (listed n 0 (f i)) + (r * n + x) = rw suc-mul (omega arith) in
       ap (λ (j : ℕ). get_or (listed n 0 (f i) ++ blocks c (i + 1)) j 0) e
       ∙ get_or-append-add (listed n 0 (f i)) (blocks c (i + 1)) (r * n + x) 0
@@ -78,23 +78,23 @@ module _ (ls : List Line) (S : ℕ → Bool) (n m : ℕ) where
   link_row : ℕ → ℕ → ℕ
   link_row r x = row n (λ y. at_end ls S n m (Link x r y))
 
-  pub rows-length : length (our_rows ls S n m) ≡ n * (1 + m)
+  pub rows_length : length (our_rows ls S n m) ≡ n * (1 + m)
   unfolding our_rows concept_row link_row blocks
-  rows-length =
+  rows_length =
       rw (length-append, mul-add)
-      (omega (arith, listed-length concept_row n 0, blocks_length n link_row m 0, mul-one n, mul_comm m n))
+      (omega (arith, listed_length concept_row n 0, blocks_length n link_row m 0, mul-one n, mul_comm m n))
 
   -- row x and row n + (r * n + x)
   pub row_concepts : (x : ℕ) → x < n → get_or (our_rows ls S n m) x 0 ≡ row n (λ b. at_end ls S n m (In x b))
   unfolding our_rows concept_row link_row blocks
   row_concepts x h =
-      let l = listed-length concept_row n 0 in
+      let l = listed_length concept_row n 0 in
       get_or-append (listed n 0 concept_row) (blocks n link_row m 0) 0 x (omega arith) ∙ listed_at concept_row 0 n 0 x h ∙ ap concept_row (zero-add x)
 
   pub row_links : (r x : ℕ) → r < m → x < n → get_or (our_rows ls S n m) (n + (r * n + x)) 0 ≡ row n (λ y. at_end ls S n m (Link x r y))
   unfolding our_rows concept_row link_row blocks
   row_links r x h g =
-      ap (λ (j : ℕ). get_or (listed n 0 concept_row ++ blocks n link_row m 0) (j + (r * n + x)) 0) (sym (listed-length concept_row n 0))
+      ap (λ (j : ℕ). get_or (listed n 0 concept_row ++ blocks n link_row m 0) (j + (r * n + x)) 0) (sym (listed_length concept_row n 0))
       ∙ get_or-append-add (listed n 0 concept_row) (blocks n link_row m 0) (r * n + x) 0
       ∙ blocks_at n link_row m 0 r x h g
       ∙ ap (λ (j : ℕ). link_row j x) (zero-add r)

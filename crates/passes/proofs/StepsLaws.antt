@@ -16,27 +16,27 @@ use Rattle.pack.specs.declared.line.Fact.TheVariants.{In}
 use Rattle.pack.specs.declared.line.Step.{Step}
 use Rattle.pack.specs.Record.{Valid}
 use Rattle.pack.specs.Rules.{premise_one_of, premise_two_of, conclusion_of, usable, free, same_fact}
-use Rattle.pack.proofs.RuleLaws.{Usable, is-usable}
+use Rattle.pack.proofs.RuleLaws.{Usable, is_usable}
 use Rattle.pack.proofs.Soundness.{free_self}
 use Rattle.yes.specs.YesSheet.{concluded, known, good_over}
 use Rattle.passes.specs.Saturation.{said, holds}
 use Rattle.passes.specs.Passes.{el, not_free, finished, at_end, goal_at_end}
 use Rattle.passes.specs.Ours.{our_steps}
 use Rattle.passes.specs.Stop.{Later}
-use Rattle.passes.proofs.LoopLaws.{later_refl, later-cons, later_trans}
+use Rattle.passes.proofs.LoopLaws.{later_refl, later_cons, later_trans}
 use Rattle.passes.proofs.SaturationLaws.{Added, Built, built_later}
 use Rattle.passes.proofs.PassLaws.{BuiltSteps, steps_most, finished_built}
-use Rattle.passes.proofs.StopLaws.{said_reverse, reached-said, first_reached, ours_reached, ours_none}
+use Rattle.passes.proofs.StopLaws.{said_reverse, reached_said, first_reached, ours_reached, ours_none}
 
 -- what the yes check calls concluded and known is what the passes say and hold
-concluded-said : (ls : List Line) (ss : List Step) (f : Fact) → concluded ls ss f ≡ said (el ls) ss f
+concluded_said : (ls : List Line) (ss : List Step) (f : Fact) → concluded ls ss f ≡ said (el ls) ss f
 unfolding concluded said
-concluded-said ls [] f = refl
-concluded-said ls (s ∷ ss) f = ap (λ (t : Bool). same_fact (conclusion_of ls s) f || t) (concluded-said ls ss f)
+concluded_said ls [] f = refl
+concluded_said ls (s ∷ ss) f = ap (λ (t : Bool). same_fact (conclusion_of ls s) f || t) (concluded_said ls ss f)
 
-known-holds : (ls : List Line) (n : ℕ) (st : List Step) (f : Fact) → known ls n (reverse st) f ≡ holds (el ls) (free n) st f
+known_holds : (ls : List Line) (n : ℕ) (st : List Step) (f : Fact) → known ls n (reverse st) f ≡ holds (el ls) (free n) st f
 unfolding known holds
-known-holds ls n st f = ap (λ (t : Bool). free n f || t) (concluded-said ls (reverse st) f ∙ said_reverse ls st f)
+known_holds ls n st f = ap (λ (t : Bool). free n f || t) (concluded_said ls (reverse st) f ∙ said_reverse ls st f)
 
 -- step i of a list in pass order, and the steps before it
 module _ {A : Type 0} where
@@ -49,7 +49,7 @@ module _ {A : Type 0} where
       go (yes l) rest =
           let k = length-reverse st in
           let r = rest l in
-          rw (take-append-le i (reverse st) (s ∷ []) (omega arith), get_or-append (reverse st) (s ∷ []) d i (omega arith)) (r.0, r.1, later_trans r.2 (later-cons s st))
+          rw (take-append-le i (reverse st) (s ∷ []) (omega arith), get_or-append (reverse st) (s ∷ []) d i (omega arith)) (r.0, r.1, later_trans r.2 (later_cons s st))
       go (no l) rest =
           let k : length (reverse st) ≡ i = length-reverse st ∙ omega arith in
           rw (take_at (reverse st) (s ∷ []) i k, get_or_at (reverse st) s [] d i k) (st, refl, later_refl (s ∷ st))
@@ -64,9 +64,9 @@ module _ (ls : List Line) (S : ℕ → Bool) (n : ℕ) where
       let s = get_or (reverse st) i d in
       let a : Added (el ls) (free n) (Usable ls S n) r.0 s = (built_later (el ls) (free n) (Usable ls S n) r.2 b).0 in (
         a.taken,
-        rw r.1 (true_both (usable ls S n s) (known ls n (reverse r.0) (premise_one_of ls s) && known ls n (reverse r.0) (premise_two_of ls s)) (is-usable a.taken)
+        rw r.1 (true_both (usable ls S n s) (known ls n (reverse r.0) (premise_one_of ls s) && known ls n (reverse r.0) (premise_two_of ls s)) (is_usable a.taken)
             (true_both (known ls n (reverse r.0) (premise_one_of ls s)) (known ls n (reverse r.0) (premise_two_of ls s))
-            (known-holds ls n r.0 (premise_one_of ls s) ∙ a.first) (known-holds ls n r.0 (premise_two_of ls s) ∙ a.second))),
+            (known_holds ls n r.0 (premise_one_of ls s) ∙ a.first) (known_holds ls n r.0 (premise_two_of ls s) ∙ a.second))),
       )
 
 -- our steps are the additions up to where the goal is first held
@@ -97,7 +97,7 @@ module _ (ls : List Line) (S : ℕ → Bool) (n m a b : ℕ) (valid : Valid n m 
             list = r.0;
             built = built_later (el ls) (free n) (Usable ls S n) r.1 (finished_built (free n) ls S n m valid (free_self n));
             ours = ours_reached ls S n m a b e r.2 r.1;
-            goal = or_right (free n (In a b)) (said (el ls) r.0 (In a b)) (reached-said ls (In a b) r.2);
+            goal = or_right (free n (In a b)) (said (el ls) r.0 (In a b)) (reached_said ls (In a b) r.2);
           }
 
   both : (i : ℕ) (d : Step) → i < length (our_steps ls S n m a b)
@@ -116,7 +116,7 @@ module _ (ls : List Line) (S : ℕ → Bool) (n m a b : ℕ) (valid : Valid n m 
 
   -- OUR STEPS SHOW THE GOAL
   pub ours_known : known ls n (our_steps ls S n m a b) (In a b) ≡ true
-  ours_known = let o = our_list in rw o.ours (known-holds ls n o.list (In a b) ∙ o.goal)
+  ours_known = let o = our_list in rw o.ours (known_holds ls n o.list (In a b) ∙ o.goal)
 
   pub ours_most : length (our_steps ls S n m a b) ≤ not_free n m
   ours_most =

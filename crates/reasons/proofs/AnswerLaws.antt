@@ -10,7 +10,7 @@ use Rattle.bits.specs.Bit.{row}
 use Rattle.bits.specs.Lists.{listed}
 use Rattle.bits.proofs.Truth.{never}
 use Rattle.marks.specs.Marks.{marked, marks_of}
-use Rattle.marks.proofs.WordLaws.{marks-length, marks_alike, marks_again}
+use Rattle.marks.proofs.WordLaws.{marks_length, marks_alike, marks_again}
 use Rattle.pack.specs.Question.{counted}
 use Rattle.pack.specs.Computed.{Admitted}
 use Rattle.pack.specs.Record.{lines_of}
@@ -21,10 +21,10 @@ use Rattle.reasons.specs.Names.{AdmittedOf}
 use Rattle.reasons.specs.Printed.{IsPicked, IsPrinted, without}
 use Rattle.reasons.specs.Computed.{module_of, spared, picked, printed, set_marks}
 use Rattle.reasons.specs.Reach.{IsModule}
-use Rattle.reasons.proofs.PickLaws.{without-true}
-use Rattle.reasons.proofs.PrintedLaws.{printed-is, printed-one}
-use Rattle.reasons.proofs.InsideLaws.{inside-true, module_follows, inside-printed}
-use Rattle.reasons.proofs.ModuleLaws.{none-past, marks_module, marks-past}
+use Rattle.reasons.proofs.PickLaws.{without_true}
+use Rattle.reasons.proofs.PrintedLaws.{printed_is, printed_one}
+use Rattle.reasons.proofs.InsideLaws.{inside_true, module_follows, inside_printed}
+use Rattle.reasons.proofs.ModuleLaws.{none_past, marks_module, marks_past}
 use Rattle.reasons.proofs.AskLaws.{fewer_taken}
 use Rattle.reasons.proofs.FileLaws.{clear_marked}
 
@@ -36,7 +36,7 @@ module _ (D : (ℕ → Bool) → Bool) where
   spared_fewer (suc c) i S j h = go (D (without S i)) h (spared_fewer c (i + 1) (without S i) j) (spared_fewer c (i + 1) S j)
     where
       go : (t : Bool) → (let left : ℕ → Bool = elim t [ true ↦ spared D c (i + 1) (without S i) | false ↦ spared D c (i + 1) S ] in left j ≡ true) → (spared D c (i + 1) (without S i) j ≡ true → without S i j ≡ true) → (spared D c (i + 1) S j ≡ true → S j ≡ true) → S j ≡ true
-      go true g spare keep = (without-true S i j (spare g)).0
+      go true g spare keep = (without_true S i j (spare g)).0
       go false g spare keep = keep g
 
 -- clear words are those of no place
@@ -54,11 +54,11 @@ module _ (n m : ℕ) (s ws : List ℕ) (a b : ℕ) (t : Admitted n m s ws a b) (
   printed_fewer = spared_fewer (λ P. goal_at_end (lines_of s) P n m a b) (length (lines_of s)) 0 (counted s ws)
 
   -- past the pack's end nothing is marked
-  pub past-none : (P : ℕ → Bool) → ((i : ℕ) → P i ≡ true → counted s ws i ≡ true) → (i : ℕ) → length (lines_of s) ≤ i → P i ≡ false
-  past-none P fewer i l = go (P i) refl
+  pub past_none : (P : ℕ → Bool) → ((i : ℕ) → P i ≡ true → counted s ws i ≡ true) → (i : ℕ) → length (lines_of s) ≤ i → P i ≡ false
+  past_none P fewer i l = go (P i) refl
     where
       go : (v : Bool) → P i ≡ v → v ≡ false
-      go true e = never (fewer i e) (none-past n m s ws a about i l)
+      go true e = never (fewer i e) (none_past n m s ws a about i l)
       go false e = refl
 
   -- WORDS THAT MARK A PRINTED SET are the words of the printed set
@@ -67,13 +67,13 @@ module _ (n m : ℕ) (s ws : List ℕ) (a b : ℕ) (t : Admitted n m s ws a b) (
     where
       go : (i : ℕ) → Dec (i < length (lines_of s)) → marked r i ≡ printed (lines_of s) (counted s ws) n m a b i
       go i (yes l) =
-          printed-one (lines_of s) (counted s ws) a b (marked r) p (printed (lines_of s) (counted s ws) n m a b)
-          (printed-is (lines_of s) n m a b (asked_valid n m s ws a b t.1) (asked n m s ws a b t.1).pack.n-some (asked n m s ws a b t.1).goal_a (counted s ws) f) i l
-      go i (no l) = past-none (marked r) fewer i (omega arith) ∙ sym (past-none (printed (lines_of s) (counted s ws) n m a b) printed_fewer i (omega arith))
+          printed_one (lines_of s) (counted s ws) a b (marked r) p (printed (lines_of s) (counted s ws) n m a b)
+          (printed_is (lines_of s) n m a b (asked_valid n m s ws a b t.1) (asked n m s ws a b t.1).pack.n_some (asked n m s ws a b t.1).goal_a (counted s ws) f) i l
+      go i (no l) = past_none (marked r) fewer i (omega arith) ∙ sym (past_none (printed (lines_of s) (counted s ws) n m a b) printed_fewer i (omega arith))
 
   -- A EQUAL TO B: no record is needed
-  pub same-words : a ≡ b → replicate 16 0 ≡ set_marks n m s ws a b
-  same-words same =
+  pub same_words : a ≡ b → replicate 16 0 ≡ set_marks n m s ws a b
+  same_words same =
       set_words (replicate 16 0) (marks_again (λ _. false) (replicate 16 0) clear_words) (λ i h. never h (clear_marked 16 i)) (record {
         within = λ i l h. never h (clear_marked 16 i);
         holds = λ w k o x l h. rw (← same) h;
@@ -89,20 +89,20 @@ module _ (n m : ℕ) (s ws : List ℕ) (a b : ℕ) (t : Admitted n m s ws a b) (
     inside_fewer i h = go (dec_lt i (length (lines_of s)))
       where
         go : Dec (i < length (lines_of s)) → counted s ws i ≡ true
-        go (yes l) = (inside-true (lines_of s) (counted s ws) inside_module.names i (sym (inside_module.places i l) ∙ h)).0
-        go (no l) = never h (ap (λ (v : List ℕ). marked v i) e ∙ marks-past n m s ws a about i (omega arith))
+        go (yes l) = (inside_true (lines_of s) (counted s ws) inside_module.names i (sym (inside_module.places i l) ∙ h)).0
+        go (no l) = never h (ap (λ (v : List ℕ). marked v i) e ∙ marks_past n m s ws a about i (omega arith))
 
     pub inside_taken : Admitted n m s inside a b
-    inside_taken = fewer_taken n m s ws a b t inside (ap length e ∙ marks-length (module_of (lines_of s) (counted s ws) n m a)) inside_fewer
+    inside_taken = fewer_taken n m s ws a b t inside (ap length e ∙ marks_length (module_of (lines_of s) (counted s ws) n m a)) inside_fewer
 
-    pub inside-words : inside ≡ marks_of (marked inside)
-    inside-words = marks_again (module_of (lines_of s) (counted s ws) n m a) inside e
+    pub inside_words : inside ≡ marks_of (marked inside)
+    inside_words = marks_again (module_of (lines_of s) (counted s ws) n m a) inside e
 
-    pub inside-follows : Follows (lines_of s) (marked inside) a b
-    inside-follows =
-        (module_follows (lines_of s) (counted s ws) n m a b (asked_valid n m s ws a b t.1) (asked n m s ws a b t.1).pack.n-some (asked n m s ws a b t.1).goal_a (marked inside) inside_module).0 f
+    pub inside_follows : Follows (lines_of s) (marked inside) a b
+    inside_follows =
+        (module_follows (lines_of s) (counted s ws) n m a b (asked_valid n m s ws a b t.1) (asked n m s ws a b t.1).pack.n_some (asked n m s ws a b t.1).goal_a (marked inside) inside_module).0 f
 
-    pub inside-set : (r : List ℕ) → (r ≡ marks_of (marked r)) × ((i : ℕ) → marked r i ≡ true → marked inside i ≡ true) → IsPicked (length (lines_of s)) (λ P. Follows (lines_of s) P a b) (marked inside) (marked r) → r ≡ set_marks n m s ws a b
-    inside-set r w p =
+    pub inside_set : (r : List ℕ) → (r ≡ marks_of (marked r)) × ((i : ℕ) → marked r i ≡ true → marked inside i ≡ true) → IsPicked (length (lines_of s)) (λ P. Follows (lines_of s) P a b) (marked inside) (marked r) → r ≡ set_marks n m s ws a b
+    inside_set r w p =
         set_words r w.0 (λ i h. inside_fewer i (w.1 i h))
-        (inside-printed (lines_of s) (counted s ws) n m a b (asked_valid n m s ws a b t.1) (asked n m s ws a b t.1).pack.n-some (asked n m s ws a b t.1).goal_a (marked inside) inside_module (marked r) p)
+        (inside_printed (lines_of s) (counted s ws) n m a b (asked_valid n m s ws a b t.1) (asked n m s ws a b t.1).pack.n_some (asked n m s ws a b t.1).goal_a (marked inside) inside_module (marked r) p)

@@ -9,7 +9,7 @@ use lib.ListN.{length}
 use Rattle.bits.specs.Sets.{lowest}
 use Rattle.bits.proofs.Truth.{never}
 use Rattle.marks.specs.Marks.{marked, marks_of, cut_out}
-use Rattle.marks.proofs.WordLaws.{marks-length}
+use Rattle.marks.proofs.WordLaws.{marks_length}
 use Rattle.marks.proofs.CutLaws.{cut_marked, cut_fewer}
 use Rattle.pack.specs.Computed.{Admitted}
 use Rattle.pack.specs.Record.{lines_of}
@@ -41,7 +41,7 @@ module _ (n m : ℕ) (s ws : List ℕ) (a b : ℕ) (t : Admitted n m s ws a b) w
     cut_same = ap marked e ∙ cut_marked ws i k taken_sixteen
 
     pub cut_taken : Admitted n m s ws' a b
-    cut_taken = fewer_taken ws' (ap length e ∙ marks-length (cut_out (marked ws) i k)) (λ j h. cut_fewer (marked ws) i k j (ap (λ (p : ℕ → Bool). p j) (sym cut_same) ∙ h))
+    cut_taken = fewer_taken ws' (ap length e ∙ marks_length (cut_out (marked ws) i k)) (λ j h. cut_fewer (marked ws) i k j (ap (λ (p : ℕ → Bool). p j) (sym cut_same) ∙ h))
 
     pub cut_follows : goal_held n m s ws' a b ≡ goal_at_end (lines_of s) (cut_out (marked ws) i k) n m a b
     unfolding goal_held
@@ -50,10 +50,10 @@ module _ (n m : ℕ) (s ws : List ℕ) (a b : ℕ) (t : Admitted n m s ws a b) w
   -- the answer is right, over any set of places
   module _ (P : ℕ → Bool) where
     pub yes_follows : goal_at_end (lines_of s) P n m a b ≡ true → Follows (lines_of s) P a b
-    yes_follows = let q = asked n m s ws a b t.1 in (decides (lines_of s) P n m (asked_valid n m s ws a b t.1) q.pack.n-some a b q.goal_a).0
+    yes_follows = let q = asked n m s ws a b t.1 in (decides (lines_of s) P n m (asked_valid n m s ws a b t.1) q.pack.n_some a b q.goal_a).0
 
     pub no_follows : goal_at_end (lines_of s) P n m a b ≡ false → Follows (lines_of s) P a b → ⊥
-    no_follows e f = let q = asked n m s ws a b t.1 in never ((decides (lines_of s) P n m (asked_valid n m s ws a b t.1) q.pack.n-some a b q.goal_a).1 f) e
+    no_follows e f = let q = asked n m s ws a b t.1 in never ((decides (lines_of s) P n m (asked_valid n m s ws a b t.1) q.pack.n_some a b q.goal_a).1 f) e
 
 -- THE TURNS OF PICKING: of the marks given, those that are left, with the places below i settled
 abbrev pub Picking : List ℕ → List ℕ → ℕ → ℕ → List ℕ → ℕ → Type 0

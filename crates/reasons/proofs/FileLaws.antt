@@ -10,7 +10,7 @@ use lib.ListN.{length, get_or, set, take, drop, replicate, length-take, length-d
 use lib.Seq.{get_or-set_same, get_or-set_other, get_or-take, get_or-drop}
 use borrow.Author.Tests.{eq-eqb, ne_eqb}
 use Rattle.bits.specs.Bit.{has, with_bit}
-use Rattle.bits.proofs.BitLaws.{has-zero, has_with}
+use Rattle.bits.proofs.BitLaws.{has_zero, has_with}
 use Rattle.marks.specs.Marks.{marked, marks_of, cut_out}
 use Rattle.marks.proofs.MarkLaws.{at_word, unmarked_past}
 use Rattle.marks.proofs.WordLaws.{marks_again}
@@ -43,22 +43,22 @@ module _ (files : List ℕ) (x : ℕ) (whole : length files ≡ 2064) (few : x �
   abbrev words : List ℕ
   words = take (x * 16 + 16 - x * 16) (drop (x * 16) files)
 
-  words-length : length words ≡ 16
-  words-length = simp (length-take, length-drop) (omega arith)
+  words_length : length words ≡ 16
+  words_length = simp (length-take, length-drop) (omega arith)
 
-  words-marked : (i : ℕ) → i < 1024 → marked words i ≡ filed files x i
-  words-marked i l =
+  words_marked : (i : ℕ) → i < 1024 → marked words i ≡ filed files x i
+  words_marked i l =
       at_word words i (i / 64) (i % 64) refl refl
       ∙ ap (λ (w : ℕ). has w (i % 64)) (get_or-take (x * 16 + 16 - x * 16) (drop (x * 16) files) (i / 64) 0 (omega arith) ∙ get_or-drop (x * 16) files (i / 64) 0)
       ∙ sym (at_word files (x * 1024 + i) (x * 16 + i / 64) (i % 64) (omega arith) (omega arith))
 
-  pub words-filed : (r : List ℕ) → r ≡ marks_of (cut_out (marked words) 0 0) → (r ≡ marks_of (marked r)) × ((i : ℕ) → i < 1024 → marked r i ≡ filed files x i)
-  words-filed r e = (marks_again (cut_out (marked words) 0 0) r e, λ i l. ap (λ (p : ℕ → Bool). p i) (copy_marked words r words-length e) ∙ words-marked i l)
+  pub words_filed : (r : List ℕ) → r ≡ marks_of (cut_out (marked words) 0 0) → (r ≡ marks_of (marked r)) × ((i : ℕ) → i < 1024 → marked r i ≡ filed files x i)
+  words_filed r e = (marks_again (cut_out (marked words) 0 0) r e, λ i l. ap (λ (p : ℕ → Bool). p i) (copy_marked words r words_length e) ∙ words_marked i l)
 
 -- of clear words nothing is marked
 pub clear_marked : (c k : ℕ) → marked (replicate c 0) k ≡ false
 clear_marked c k = go (dec_lt (k / 64) c)
   where
     go : Dec (k / 64 < c) → marked (replicate c 0) k ≡ false
-    go (yes h) = at_word (replicate c 0) k (k / 64) (k % 64) refl refl ∙ ap (λ (w : ℕ). has w (k % 64)) (get_or-replicate c (k / 64) 0 0 h) ∙ has-zero (k % 64)
+    go (yes h) = at_word (replicate c 0) k (k / 64) (k % 64) refl refl ∙ ap (λ (w : ℕ). has w (k % 64)) (get_or-replicate c (k / 64) 0 0 h) ∙ has_zero (k % 64)
     go (no h) = unmarked_past (replicate c 0) k (omega (arith, length-replicate {A = ℕ} c 0))

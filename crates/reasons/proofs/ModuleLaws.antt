@@ -8,12 +8,12 @@ use native.Mathlib.Omega.{arith}
 use lib.ListN.{length}
 use Rattle.bits.proofs.Truth.{never}
 use Rattle.marks.specs.Marks.{marked, marks_of}
-use Rattle.marks.proofs.WordLaws.{marked_of, marked-past, marks_alike}
+use Rattle.marks.proofs.WordLaws.{marked_of, marked_past, marks_alike}
 use Rattle.pack.specs.declared.line.Line.{Line}
 use Rattle.pack.specs.Question.{counted}
 use Rattle.pack.specs.Record.{lines_of, Valid}
 use Rattle.pack.proofs.QuestionLaws.{Asked, asked, asked_valid}
-use Rattle.pack.proofs.RecordLaws.{lines_length, valid-most}
+use Rattle.pack.proofs.RecordLaws.{lines_length, valid_most}
 use Rattle.reasons.specs.Reach.{Name, module_in, IsModule}
 use Rattle.reasons.specs.Computed.{reached, module_of, module_marks}
 use Rattle.reasons.specs.Names.{AdmittedOf}
@@ -34,23 +34,23 @@ module _ (n m : ℕ) (s ws : List ℕ) (a : ℕ) (taken : AdmittedOf n m s ws a)
   lines_right = asked_valid n m s ws a taken.0 taken.1.1
 
   pub lines_widest : Valid 64 8 (lines_of s)
-  lines_widest = valid-most asked_of.pack.n-most asked_of.pack.m-most (lines_of s) lines_right
+  lines_widest = valid_most asked_of.pack.n_most asked_of.pack.m_most (lines_of s) lines_right
 
   -- no place past the records counts
-  pub none-past : (i : ℕ) → length (lines_of s) ≤ i → counted s ws i ≡ false
-  none-past i h = asked_of.marks.above i (omega (arith, lines_length s, asked_of.pack.count))
+  pub none_past : (i : ℕ) → length (lines_of s) ≤ i → counted s ws i ≡ false
+  none_past i h = asked_of.marks.above i (omega (arith, lines_length s, asked_of.pack.count))
 
   -- the module has no place past the records
   pub module_past : (i : ℕ) → length (lines_of s) ≤ i → module_of (lines_of s) (counted s ws) n m a i ≡ false
   unfolding module_of
-  module_past i h = outside_unmarked (lines_of s) (counted s ws) (reached (lines_of s) (counted s ws) n m a) i (none-past i h)
+  module_past i h = outside_unmarked (lines_of s) (counted s ws) (reached (lines_of s) (counted s ws) n m a) i (none_past i h)
 
   -- WORDS THAT MARK THE MODULE, and no place that does not count, are the module's, however it was found
   pub module_found : (r : List ℕ) → (r ≡ marks_of (marked r)) × ((i : ℕ) → i < 1024 → marked r i ≡ true → counted s ws i ≡ true) × IsModule (lines_of s) (counted s ws) a (marked r) → r ≡ module_marks n m s ws a
   module_found r p = p.0 ∙ marks_alike (marked r) (module_of (lines_of s) (counted s ws) n m a) (λ i few. go i few (dec_lt i (length (lines_of s))))
     where
       none : (i : ℕ) → i < 1024 → length (lines_of s) ≤ i → (t : Bool) → marked r i ≡ t → t ≡ false
-      none i few h true e = never (p.1 i few e) (none-past i h)
+      none i few h true e = never (p.1 i few e) (none_past i h)
       none i few h false e = refl
 
       go : (i : ℕ) → i < 1024 → Dec (i < length (lines_of s)) → marked r i ≡ module_of (lines_of s) (counted s ws) n m a i
@@ -67,9 +67,9 @@ module _ (n m : ℕ) (s ws : List ℕ) (a : ℕ) (taken : AdmittedOf n m s ws a)
         places = λ i l. marked_of (module_of (lines_of s) (counted s ws) n m a) i (omega (arith, lines_length s, asked_of.pack.size)) ∙ im.places i l;
       }
 
-  pub marks-past : (i : ℕ) → length (lines_of s) ≤ i → marked (module_marks n m s ws a) i ≡ false
-  marks-past i h = go (dec_lt i 1024)
+  pub marks_past : (i : ℕ) → length (lines_of s) ≤ i → marked (module_marks n m s ws a) i ≡ false
+  marks_past i h = go (dec_lt i 1024)
     where
       go : Dec (i < 1024) → marked (module_marks n m s ws a) i ≡ false
       go (yes l) = marked_of (module_of (lines_of s) (counted s ws) n m a) i l ∙ module_past i h
-      go (no l) = marked-past (module_of (lines_of s) (counted s ws) n m a) i (omega arith)
+      go (no l) = marked_past (module_of (lines_of s) (counted s ws) n m a) i (omega arith)

@@ -13,9 +13,9 @@ use Rattle.reasons.specs.Computed.{spared, picked}
 
 -- one place taken out
 module _ (S : ℕ → Bool) (i : ℕ) where
-  pub without-true : (j : ℕ) → without S i j ≡ true → (S j ≡ true) × (j ≡ i → ⊥)
+  pub without_true : (j : ℕ) → without S i j ≡ true → (S j ≡ true) × (j ≡ i → ⊥)
   unfolding without
-  without-true j h = let p = both_true (S j) (not (eqb j i)) h in (p.0, eqb-false j i (not-true (eqb j i) p.1))
+  without_true j h = let p = both_true (S j) (not (eqb j i)) h in (p.0, eqb-false j i (not-true (eqb j i) p.1))
 
   without_other : (j : ℕ) → (j ≡ i → ⊥) → without S i j ≡ S j
   unfolding without
@@ -26,13 +26,13 @@ module _ (S : ℕ → Bool) (i : ℕ) where
   without_self = rw (eq-eqb i i refl) (and_no (S i) false refl)
 
   -- a subset that lacks the place
-  without-within : (len : ℕ) (Q : ℕ → Bool) → Subset len Q S → Q i ≡ false → Subset len Q (without S i)
-  without-within len Q w e j l h = without_other j (λ z. never h (ap Q z ∙ e)) ∙ w j l h
+  without_within : (len : ℕ) (Q : ℕ → Bool) → Subset len Q S → Q i ≡ false → Subset len Q (without S i)
+  without_within len Q w e j l h = without_other j (λ z. never h (ap Q z ∙ e)) ∙ w j l h
 
 module _ (len : ℕ) (F : (ℕ → Bool) → Type 0) (S P : ℕ → Bool) (p : IsPicked len F S P) where
   -- THERE IS ONE, however it was found
-  pub picked-one : (Q : ℕ → Bool) → IsPicked len F S Q → (i : ℕ) → i < len → P i ≡ Q i
-  picked-one Q q i l = upto (i + 1) i (omega arith) l
+  pub picked_one : (Q : ℕ → Bool) → IsPicked len F S Q → (i : ℕ) → i < len → P i ≡ Q i
+  picked_one Q q i l = upto (i + 1) i (omega arith) l
     where
       upto : (k i : ℕ) → i < k → i < len → P i ≡ Q i
       upto zero i h l = absurd (omega arith)
@@ -45,10 +45,10 @@ module _ (len : ℕ) (F : (ℕ → Bool) → Type 0) (S P : ℕ → Bool) (p : I
               ∙ sym (q.lacks P p.within p.holds i (record { inside = l; below = λ j g. sym (same j g); here = λ z. e (sym z) }))
 
   -- WITH ANY ONE PLACE TAKEN OUT, F IS LOST
-  pub picked-needs : (i : ℕ) → i < len → P i ≡ true → F (without P i) → ⊥
-  picked-needs i l h f =
+  pub picked_needs : (i : ℕ) → i < len → P i ≡ true → F (without P i) → ⊥
+  picked_needs i l h f =
       never h
-      (p.lacks (without P i) (λ j k g. p.within j k (without-true P i j g).0) f i (record {
+      (p.lacks (without P i) (λ j k g. p.within j k (without_true P i j g).0) f i (record {
         inside = l;
         below = λ j g. sym (without_other P i j (omega arith));
         here = λ e. never h (e ∙ without_self P i);
@@ -144,7 +144,7 @@ module _ (len : ℕ) (F : (ℕ → Bool) → Type 0) (mono : (P Q : ℕ → Bool
     where
       go : (Q : ℕ → Bool) → Subset len Q P → F Q → (i : ℕ) → i < len → P i ≡ true → (t : Bool) → Q i ≡ t → Q i ≡ true
       go Q w f i l h true e = e
-      go Q w f i l h false e = absurd (picked-needs len F S P p i l h (mono Q (without P i) (without-within P i len Q w e) f))
+      go Q w f i l h false e = absurd (picked_needs len F S P p i l h (mono Q (without P i) (without_within P i len Q w e) f))
 
   -- sets that agree below len are picked together
   pub picked_same : (S S' P P' : ℕ → Bool) → ((i : ℕ) → i < len → S i ≡ S' i) → ((i : ℕ) → i < len → P i ≡ P' i) → IsPicked len F S P → IsPicked len F S' P'
@@ -158,10 +158,10 @@ module _ (len : ℕ) (F : (ℕ → Bool) → Type 0) (mono : (P Q : ℕ → Bool
   }
 
   module _ (D : (ℕ → Bool) → Bool) (dec : (P : ℕ → Bool) → (D P ≡ true) ↔ F P) where
-    spared-is : (c i : ℕ) → i + c ≡ len → (S : ℕ → Bool) → Settled len F i S → F S → IsPicked len F S (spared D c i S)
+    spared_is : (c i : ℕ) → i + c ≡ len → (S : ℕ → Bool) → Settled len F i S → F S → IsPicked len F S (spared D c i S)
     unfolding spared
-    spared-is zero i h S settled f = settled_picked len F S (λ Q w g j l. settled Q w g j (omega arith)) f
-    spared-is (suc c) i h S settled f = go (D (without S i)) refl (spared-is c (i + 1) (omega arith) (without S i)) (spared-is c (i + 1) (omega arith) S)
+    spared_is zero i h S settled f = settled_picked len F S (λ Q w g j l. settled Q w g j (omega arith)) f
+    spared_is (suc c) i h S settled f = go (D (without S i)) refl (spared_is c (i + 1) (omega arith) (without S i)) (spared_is c (i + 1) (omega arith) S)
       where
         Rest : (ℕ → Bool) → Type 0
         Rest T = Settled len F (i + 1) T → F T → IsPicked len F T (spared D c (i + 1) T)
@@ -174,10 +174,10 @@ module _ (len : ℕ) (F : (ℕ → Bool) → Type 0) (mono : (P Q : ℕ → Bool
         go false e spare keep = keep (kept_settled len i S (without S i) (without_cut len i S) F mono (λ g. never ((dec (without S i)).1 g) e) settled) f
 
     -- ASCENDING DELETION PICKS
-    pub picked-is : (S : ℕ → Bool) → F S → IsPicked len F S (picked D len S)
+    pub picked_is : (S : ℕ → Bool) → F S → IsPicked len F S (picked D len S)
     unfolding picked
-    picked-is S f = spared-is len 0 (omega arith) S (λ Q w g j l. absurd (omega arith)) f
+    picked_is S f = spared_is len 0 (omega arith) S (λ Q w g j l. absurd (omega arith)) f
 
     -- THERE IS ONE EXACTLY WHERE S HAS F
     pub picked_exists : (S : ℕ → Bool) → ((P : ℕ → Bool) × IsPicked len F S P) ↔ F S
-    picked_exists S = (λ p. mono p.0 S p.1.within p.1.holds, λ f. (picked D len S, picked-is S f))
+    picked_exists S = (λ p. mono p.0 S p.1.within p.1.holds, λ f. (picked D len S, picked_is S f))

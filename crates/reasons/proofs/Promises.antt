@@ -20,12 +20,12 @@ use Rattle.pack.specs.Question.{counted, Taken}
 use Rattle.pack.specs.Record.{lines_of, record_count}
 use Rattle.pack.specs.Table.{Row, refuse, Given}
 use Rattle.pack.specs.World.{Follows}
-use Rattle.pack.proofs.GivenLaws.{given-one, given-zero, given_after, told, checked_told_lem, refusal_of}
+use Rattle.pack.proofs.GivenLaws.{given_one, given_zero, given_after, told, checked_told_lem, refusal_of}
 use Rattle.pack.proofs.Promises.{question_numbered, asked_given, taken_admitted}
 use Rattle.pack.proofs.QuestionLaws.{asked, asked_valid}
 use Rattle.pack.proofs.RecordLaws.{lines_length}
 use Rattle.passes.specs.Passes.{finished}
-use Rattle.engine.proofs.VerdictLaws.{finished-few}
+use Rattle.engine.proofs.VerdictLaws.{finished_few}
 use Rattle.reasons.specs.declared.set.SetAnswer.{SetAnswer}
 use Rattle.reasons.specs.declared.set.SetAnswer.TheVariants as answer
 use Rattle.reasons.specs.Printed.{IsPrinted, without}
@@ -39,14 +39,14 @@ use Rattle.reasons.specs.Names.{AdmittedOf}
 use Rattle.reasons.proofs.OutLaws.{reason_asked, reason_taken}
 use Rattle.reasons.proofs.ReachLaws.{module_is, module_one}
 use Rattle.reasons.proofs.ModuleLaws.{asked_of, lines_right, module_past}
-use Rattle.reasons.proofs.PrintedLaws.{printed-is, printed-one, printed-needs}
-use Rattle.reasons.proofs.AnswerLaws.{printed_fewer, past-none}
+use Rattle.reasons.proofs.PrintedLaws.{printed_is, printed_one, printed_needs}
+use Rattle.reasons.proofs.AnswerLaws.{printed_fewer, past_none}
 use Rattle.pack.specs.Answers.{checked_told}
 
 -- WORDS OF ONE SET: where one set at most is meant, up to the records' end, the words and the count are one
 module _ (meant : (ℕ → Bool) → Type 0) (s : List ℕ) (one : (P Q : ℕ → Bool) → meant P → meant Q → (i : ℕ) → i < length (lines_of s) → P i ≡ Q i) where
-  pub marks-one : {k k' : ℕ} {w w' : List ℕ} → MarksThe meant s k w → MarksThe meant s k' w' → (k ≡ k') × (w ≡ w')
-  marks-one {k} {k'} {w} {w'} p q = (p.count ∙ ap mark_count same ∙ sym q.count, same)
+  pub marks_one : {k k' : ℕ} {w w' : List ℕ} → MarksThe meant s k w → MarksThe meant s k' w' → (k ≡ k') × (w ≡ w')
+  marks_one {k} {k'} {w} {w'} p q = (p.count ∙ ap mark_count same ∙ sym q.count, same)
     where
       at : (i : ℕ) → Dec (i < length (lines_of s)) → p.places i ≡ q.places i
       at i (yes l) = one p.places q.places p.is q.is i l
@@ -92,9 +92,9 @@ module _ (n m : ℕ) (s ws : List ℕ) (a : ℕ) (out : List ℕ) where
   -- one number, one value and one later content are given
   pub module_same : {k v k' v' : ℕ} {after after' : List ℕ} → GivesModule n m s ws a out after k v → GivesModule n m s ws a out after' k' v' → (k ≡ k') × (v ≡ v') × (after ≡ after')
   module_same {after = after} {after' = after'} g h =
-      let e = given-one (after ≡ out) (after' ≡ out) (λ v. MarksModule s ws a v after) (λ v. MarksModule s ws a v after') (reason_rows n m s ws a a (eqb (length out) 16)) g h in
+      let e = given_one (after ≡ out) (after' ≡ out) (λ v. MarksModule s ws a v after) (λ v. MarksModule s ws a v after') (reason_rows n m s ws a a (eqb (length out) 16)) g h in
       ⊎_elim (λ r. (e.0, r.0, r.1 ∙ sym r.2))
-      (λ r. let o = marks-one (IsModule (lines_of s) (counted s ws) a) s (module_one (lines_of s) (counted s ws) a) r.0 r.1 in (e.0, o.0, o.1)) e.1
+      (λ r. let o = marks_one (IsModule (lines_of s) (counted s ws) a) s (module_one (lines_of s) (counted s ws) a) r.0 r.1 in (e.0, o.0, o.1)) e.1
 
   -- NO SECOND RESULT, no second content of the out marks
   pub module_fixed : (r r' : Checked) (after after' : List ℕ) → GivesModule n m s ws a out after (checked_told r).0 (checked_told r).1 → GivesModule n m s ws a out after' (checked_told r').0 (checked_told r').1 → (r ≡ r') × (after ≡ after')
@@ -105,7 +105,7 @@ module _ (n m : ℕ) (s ws : List ℕ) (a : ℕ) (out : List ℕ) where
   module_right t l {after = after} g =
       let c = reason_asked n m s ws a a (length out) l ∙ (taken_admitted n m s ws a a t).1 in
       let zero = (module_same g (module_taken c refl)).0 in
-      (zero, given-zero (after ≡ out) (λ v. MarksModule s ws a v after) (reason_rows n m s ws a a (eqb (length out) 16)) question_numbered (rw zero at g))
+      (zero, given_zero (after ≡ out) (λ v. MarksModule s ws a v after) (reason_rows n m s ws a a (eqb (length out) 16)) question_numbered (rw zero at g))
 
 -- THE SET CALL: an answer is told by its number and value
 pub set_told_by : (x y : SetAnswer) → set_number x ≡ set_number y → set_value x ≡ set_value y → x ≡ y
@@ -129,8 +129,8 @@ set_told_by = told set_number set_value set_of back
 abbrev pub SetNumbered : Type 0
 SetNumbered = (0 < 1) × ((0 < 2) × ((0 < 3) × ((0 < 4) × ((0 < 5) × ((0 < 6) × ((0 < 7) × Unit {0}))))))
 
-pub set-numbered : SetNumbered
-set-numbered = (omega arith, (omega arith, (omega arith, (omega arith, (omega arith, (omega arith, (omega arith, tt)))))))
+pub set_numbered : SetNumbered
+set_numbered = (omega arith, (omega arith, (omega arith, (omega arith, (omega arith, (omega arith, (omega arith, tt)))))))
 
 module _ (n m : ℕ) (s ws : List ℕ) (a b : ℕ) (out : List ℕ) where
   abbrev F : Type 0
@@ -139,21 +139,21 @@ module _ (n m : ℕ) (s ws : List ℕ) (a b : ℕ) (out : List ℕ) where
   abbrev more : List Row
   more = refuse 6 (36800 < length (finished (lines_of s) (counted s ws) n m)) ∷ refuse 7 (F → ⊥) ∷ []
 
-  pub set-refused : {why : Refusal} → check_reason n m s ws a b (length out) ≡ checked.Refused why → GivesSet n m s ws a b out out (refusal_number why) (refusal_place why)
-  set-refused {why} e =
+  pub set_refused : {why : Refusal} → check_reason n m s ws a b (length out) ≡ checked.Refused why → GivesSet n m s ws a b out out (refusal_number why) (refusal_place why)
+  set_refused {why} e =
       given_after (out ≡ out) (λ value. MarksSet s ws a b value out) {k = refusal_number why} {v = refusal_place why} (reason_rows n m s ws a b (eqb (length out) 16)) more (record_count s) question_numbered (checked.Refused why)
       (rw e at (reason_given n m s ws a b (length out)))
       (λ w h. let same : why ≡ w = cc in (ap refusal_number same, ap refusal_place same, refl))
       (λ j h. clash cc)
 
   -- taken: further rows
-  set-counted : {k : ℕ} → check_reason n m s ws a b (length out) ≡ checked.Count k → (after : List ℕ) (number value : ℕ)
+  set_counted : {k : ℕ} → check_reason n m s ws a b (length out) ≡ checked.Count k → (after : List ℕ) (number value : ℕ)
       → Given (after ≡ out) (refuse 7 (F → ⊥) ∷ []) (λ v. MarksSet s ws a b v after) number value → GivesSet n m s ws a b out after number value
-  set-counted {k} e after number value g =
+  set_counted {k} e after number value g =
       given_after (after ≡ out) (λ v. MarksSet s ws a b v after) {k = number} {v = value} (reason_rows n m s ws a b (eqb (length out) 16)) more (record_count s) question_numbered (checked.Count k)
       (rw e at (reason_given n m s ws a b (length out)))
       (λ why h. clash cc)
-      (λ j h. inr ((λ _ _ q. omega (arith, q.0, finished-few n m s ws a b (reason_taken n m s ws a b (length out) e).1)), g))
+      (λ j h. inr ((λ _ _ q. omega (arith, q.0, finished_few n m s ws a b (reason_taken n m s ws a b (length out) e).1)), g))
 
   set_words : {k : ℕ} → check_reason n m s ws a b (length out) ≡ checked.Count k → F → {after : List ℕ} → after ≡ set_marks n m s ws a b → MarksSet s ws a b (mark_count (set_marks n m s ws a b)) after
   set_words {k} e f {after} same =
@@ -161,23 +161,23 @@ module _ (n m : ℕ) (s ws : List ℕ) (a b : ℕ) (out : List ℕ) where
       let q = asked n m s ws a b taken in
       record {
         places = printed (lines_of s) (counted s ws) n m a b;
-        is = printed-is (lines_of s) n m a b (asked_valid n m s ws a b taken) q.pack.n-some q.goal_a (counted s ws) f;
-        past = λ i l. past-none n m s ws a b (k, taken) f (printed (lines_of s) (counted s ws) n m a b) (printed_fewer n m s ws a b (k, taken) f) i (omega (arith, lines_length s));
+        is = printed_is (lines_of s) n m a b (asked_valid n m s ws a b taken) q.pack.n_some q.goal_a (counted s ws) f;
+        past = λ i l. past_none n m s ws a b (k, taken) f (printed (lines_of s) (counted s ws) n m a b) (printed_fewer n m s ws a b (k, taken) f) i (omega (arith, lines_length s));
         are = same;
         count = ap mark_count (sym same);
       }
 
   pub set_taken : {k : ℕ} → check_reason n m s ws a b (length out) ≡ checked.Count k → (r : SetAnswer) {after : List ℕ} → SetTaken n m s ws a b out after r → GivesSet n m s ws a b out after (set_number r) (set_value r)
   set_taken e r {after} (inl g) =
-      rw g.1 (set-counted e after 0 (mark_count (set_marks n m s ws a b)) (inr ((λ _ _ q. q.0 g.0), (refl, set_words e g.0 g.2))))
-  set_taken e r {after} (inr g) = rw g.1 (set-counted e after 7 0 (inl ((g.0, refl, refl), g.2)))
+      rw g.1 (set_counted e after 0 (mark_count (set_marks n m s ws a b)) (inr ((λ _ _ q. q.0 g.0), (refl, set_words e g.0 g.2))))
+  set_taken e r {after} (inr g) = rw g.1 (set_counted e after 7 0 (inl ((g.0, refl, refl), g.2)))
 
   -- one number, one value and one later content are given
   pub set_same : {k v k' v' : ℕ} {after after' : List ℕ} → GivesSet n m s ws a b out after k v → GivesSet n m s ws a b out after' k' v' → (k ≡ k') × (v ≡ v') × (after ≡ after')
   set_same {after = after} {after' = after'} g h =
-      let e = given-one (after ≡ out) (after' ≡ out) (λ v. MarksSet s ws a b v after) (λ v. MarksSet s ws a b v after') (set_rows n m s ws a b (eqb (length out) 16)) g h in
+      let e = given_one (after ≡ out) (after' ≡ out) (λ v. MarksSet s ws a b v after) (λ v. MarksSet s ws a b v after') (set_rows n m s ws a b (eqb (length out) 16)) g h in
       ⊎_elim (λ r. (e.0, r.0, r.1 ∙ sym r.2))
-      (λ r. let o = marks-one (IsPrinted (lines_of s) (counted s ws) a b) s (λ P Q p q. printed-one (lines_of s) (counted s ws) a b P p Q q) r.0 r.1 in (e.0, o.0, o.1)) e.1
+      (λ r. let o = marks_one (IsPrinted (lines_of s) (counted s ws) a b) s (λ P Q p q. printed_one (lines_of s) (counted s ws) a b P p Q q) r.0 r.1 in (e.0, o.0, o.1)) e.1
 
   -- NO SECOND RESULT, no second content of the out marks
   pub set_fixed : (r r' : SetAnswer) (after after' : List ℕ) → GivesSet n m s ws a b out after (set_told r).0 (set_told r).1 → GivesSet n m s ws a b out after' (set_told r').0 (set_told r').1 → (r ≡ r') × (after ≡ after')
@@ -196,5 +196,5 @@ module _ (n m : ℕ) (s ws : List ℕ) (a b : ℕ) (out : List ℕ) where
       c = reason_asked n m s ws a b (length out) l ∙ (taken_admitted n m s ws a b t).1
 
 -- THE WORDS OF A PRINTED SET: with any one of its records taken out the goal no longer follows
-pub set-needs : (s ws : List ℕ) (a b : ℕ) {k : ℕ} {words : List ℕ} (p : MarksSet s ws a b k words) (i : ℕ) → i < length (lines_of s) → p.places i ≡ true → Follows (lines_of s) (without p.places i) a b → ⊥
-set-needs s ws a b p = printed-needs (lines_of s) (counted s ws) a b p.places p.is
+pub set_needs : (s ws : List ℕ) (a b : ℕ) {k : ℕ} {words : List ℕ} (p : MarksSet s ws a b k words) (i : ℕ) → i < length (lines_of s) → p.places i ≡ true → Follows (lines_of s) (without p.places i) a b → ⊥
+set_needs s ws a b p = printed_needs (lines_of s) (counted s ws) a b p.places p.is

@@ -8,7 +8,7 @@ use lib.ListN.{length}
 use borrow.Author.Tests.{eqb-true, eq-eqb}
 use Rattle.bits.specs.Sets.{count_to}
 use Rattle.bits.proofs.Truth.{both_true, true_both, never, alike, turn}
-use Rattle.bits.proofs.SetLaws.{count-le, count_fewer, count_less}
+use Rattle.bits.proofs.SetLaws.{count_le, count_fewer, count_less}
 use Rattle.pack.specs.declared.line.Line.{Line}
 use Rattle.pack.specs.declared.line.Line.TheVariants.{Under, BothUnder, UnderSome, SomeUnder, RoleUnder, ChainUnder, ToItself, NoLine}
 use Rattle.pack.specs.World.{line_at}
@@ -16,8 +16,8 @@ use Rattle.pack.specs.Record.{ValidLine, Valid}
 use Rattle.passes.specs.Loop.{gate}
 use Rattle.passes.specs.Saturation.{holds, attempt, runs}
 use Rattle.passes.specs.Stop.{Later}
-use Rattle.passes.proofs.LoopLaws.{loop-keeps, gate-keeps, gate-later, loop-later, Comes, comes_trans, gate-comes, loop-comes}
-use Rattle.passes.proofs.SaturationLaws.{Built, Closed, Sweep, attempt-later, attempt_built, built_within, end_built, end_closed}
+use Rattle.passes.proofs.LoopLaws.{loop_keeps, gate_keeps, gate_later, loop_later, Comes, comes_trans, gate_comes, loop_comes}
+use Rattle.passes.proofs.SaturationLaws.{Built, Closed, Sweep, attempt_later, attempt_built, built_within, end_built, end_closed}
 use Rattle.reasons.specs.Reach.{Name, concept, role, left_names, right_names, all_in, Reaches, IsReached, module_in, IsModule}
 use Rattle.reasons.specs.Computed.{Arrow, same_name, name_at, reach, both_sides, reach_pass, reached, module_of}
 
@@ -26,12 +26,12 @@ unfolding same_name
 name_self (concept a) = eq-eqb a a refl
 name_self (role r) = eq-eqb r r refl
 
-pub name-one : (x y : Name) → same_name x y ≡ true → x ≡ y
+pub name_one : (x y : Name) → same_name x y ≡ true → x ≡ y
 unfolding same_name
-name-one (concept a) (concept b) h = ap concept (eqb-true a b h)
-name-one (concept a) (role s) h = never h refl
-name-one (role r) (concept b) h = never h refl
-name-one (role r) (role s) h = ap role (eqb-true r s h)
+name_one (concept a) (concept b) h = ap concept (eqb-true a b h)
+name_one (concept a) (role s) h = never h refl
+name_one (role r) (concept b) h = never h refl
+name_one (role r) (role s) h = ap role (eqb-true r s h)
 
 -- a side has two names at most
 left_two : (l : Line) → length (left_names l) ≤ 2
@@ -135,38 +135,38 @@ module _ (ls : List Line) (S : ℕ → Bool) (a : ℕ) where
 
   sides_later : (i : ℕ) (st : List Arrow) → Later st (both_sides ls S a i st)
   unfolding both_sides
-  sides_later i = loop-later (try i) (λ j. attempt-later (reach ls a) Start (record { place = i; side = j })) 2 0
+  sides_later i = loop_later (try i) (λ j. attempt_later (reach ls a) Start (record { place = i; side = j })) 2 0
 
   gate_sides : (i : ℕ) (st : List Arrow) → Later st (gate (S i) (both_sides ls S a i) st)
-  gate_sides i = gate-later (S i) (both_sides ls S a i) (sides_later i)
+  gate_sides i = gate_later (S i) (both_sides ls S a i) (sides_later i)
 
-  pass-later : (st : List Arrow) → Later st (reach_pass ls S a st)
+  pass_later : (st : List Arrow) → Later st (reach_pass ls S a st)
   unfolding reach_pass
-  pass-later = loop-later (λ i. gate (S i) (both_sides ls S a i)) gate_sides (length ls) 0
+  pass_later = loop_later (λ i. gate (S i) (both_sides ls S a i)) gate_sides (length ls) 0
 
   pass_built : (st : List Arrow) → BuiltArrows st → BuiltArrows (reach_pass ls S a st)
   unfolding reach_pass both_sides
   pass_built =
-      loop-keeps BuiltArrows (λ i. gate (S i) (both_sides ls S a i)) (length ls) 0
-      (λ i st _ hi. gate-keeps BuiltArrows (S i) (both_sides ls S a i)
-      (λ st g. loop-keeps BuiltArrows (try i) 2 0
+      loop_keeps BuiltArrows (λ i. gate (S i) (both_sides ls S a i)) (length ls) 0
+      (λ i st _ hi. gate_keeps BuiltArrows (S i) (both_sides ls S a i)
+      (λ st g. loop_keeps BuiltArrows (try i) 2 0
       (λ j st _ hj. attempt_built (reach ls a) Start (Marked ls S) (record { place = i; side = j }) (record { there = omega arith; marked = g; sided = omega arith }) st) st) st)
 
-  pass-comes : (s : Arrow) → Marked ls S s → Comes (reach_pass ls S a) (attempt (reach ls a) Start s)
+  pass_comes : (s : Arrow) → Marked ls S s → Comes (reach_pass ls S a) (attempt (reach ls a) Start s)
   unfolding reach_pass both_sides
-  pass-comes s u =
+  pass_comes s u =
       let i = s.place in
       let one = attempt (reach ls a) Start s in
       comes_trans (reach_pass ls S a) (gate (S i) (both_sides ls S a i)) one
-      (loop-comes (λ i. gate (S i) (both_sides ls S a i)) gate_sides (length ls) 0 i (omega arith) (omega (arith, u.there)))
+      (loop_comes (λ i. gate (S i) (both_sides ls S a i)) gate_sides (length ls) 0 i (omega arith) (omega (arith, u.there)))
       (comes_trans (gate (S i) (both_sides ls S a i)) (both_sides ls S a i) one
-      (gate-comes (S i) (both_sides ls S a i) u.marked)
-      (loop-comes (try i) (λ j. attempt-later (reach ls a) Start (record { place = i; side = j })) 2 0 s.side (omega arith) (omega (arith, u.sided))))
+      (gate_comes (S i) (both_sides ls S a i) u.marked)
+      (loop_comes (try i) (λ j. attempt_later (reach ls a) Start (record { place = i; side = j })) 2 0 s.side (omega arith) (omega (arith, u.sided))))
 
   -- the smallest set of names in the two ways of saying it
   reaches_closed : (R : Name → Bool) → Reaches ls S a R → Closed (reach ls a) Start (Marked ls S) R
   reaches_closed R r = record {
-    start = λ x h. ap R (sym (name-one (concept a) x h)) ∙ r.start;
+    start = λ x h. ap R (sym (name_one (concept a) x h)) ∙ r.start;
     rules = λ s u h₁ h₂.
         let l = line_at ls s.place in
         all_two R a r.start (right_names l) s.side (r.goes s.place u.there u.marked (two_all R a r.start (left_names l) (left_two l) h₁ h₂));
@@ -188,21 +188,21 @@ module _ (ls : List Line) (S : ℕ → Bool) (n m a : ℕ) (valid : Valid n m ls
   sweep : Sweep (reach ls a) (same_name (concept a)) (Marked ls S) (reach_pass ls S a) (n + m)
   unfolding lack_names
   sweep = record {
-    law = record { self = name_self; only = name-one };
-    later = pass-later ls S a;
+    law = record { self = name_self; only = name_one };
+    later = pass_later ls S a;
     keeps = pass_built ls S a;
-    comes = pass-comes ls S a;
+    comes = pass_comes ls S a;
     lacking = lack_names n m;
     falls = λ T U up s u. lack_falls n m T U up (name_at a (right_names (line_at ls s.place)) s.side) (right_named n m a ha (line_at ls s.place) (valid s.place u.there) s.side);
     start =
         let st = holds (reach ls a) (same_name (concept a)) [] in
-        omega (arith, count-le (λ x. not (st (concept x))) n, count-le (λ r. not (st (role r))) m);
+        omega (arith, count_le (λ x. not (st (concept x))) n, count_le (λ r. not (st (role r))) m);
   }
 
   -- WHAT SATURATION REACHES IS THE SMALLEST SET: sound and closed
-  reached-is : IsReached ls S a (reached ls S n m a)
+  reached_is : IsReached ls S a (reached ls S n m a)
   unfolding reached
-  reached-is =
+  reached_is =
       let pass = reach_pass ls S a in
       let start = same_name (concept a) in
       record {
@@ -213,11 +213,11 @@ module _ (ls : List Line) (S : ℕ → Bool) (n m a : ℕ) (valid : Valid n m ls
   -- AND SO IT FINDS THE MODULE
   pub module_is : IsModule ls S a (module_of ls S n m a)
   unfolding module_of
-  module_is = record { names = reached ls S n m a; reached = reached-is; places = λ i l. refl }
+  module_is = record { names = reached ls S n m a; reached = reached_is; places = λ i l. refl }
 
 -- THERE IS ONE SMALLEST SET
-pub reached-one : (ls : List Line) (S : ℕ → Bool) (a : ℕ) (R R' : Name → Bool) → IsReached ls S a R → IsReached ls S a R' → (x : Name) → R x ≡ R' x
-reached-one ls S a R R' r r' x = alike (R x) (R' x) (r.least R' r'.reaches x) (r'.least R r.reaches x)
+pub reached_one : (ls : List Line) (S : ℕ → Bool) (a : ℕ) (R R' : Name → Bool) → IsReached ls S a R → IsReached ls S a R' → (x : Name) → R x ≡ R' x
+reached_one ls S a R R' r r' x = alike (R x) (R' x) (r.least R' r'.reaches x) (r'.least R r.reaches x)
 
 all_same : (R R' : Name → Bool) → ((x : Name) → R x ≡ R' x) → (xs : List Name) → all_in R xs ≡ all_in R' xs
 unfolding all_in
@@ -229,12 +229,12 @@ pub module_one : (ls : List Line) (S : ℕ → Bool) (a : ℕ) (M M' : ℕ → B
 unfolding module_in
 module_one ls S a M M' p q i l =
     p.places i l
-    ∙ ap (λ (t : Bool). S i && t) (all_same p.names q.names (reached-one ls S a p.names q.names p.reached q.reached) (left_names (line_at ls i)))
+    ∙ ap (λ (t : Bool). S i && t) (all_same p.names q.names (reached_one ls S a p.names q.names p.reached q.reached) (left_names (line_at ls i)))
     ∙ sym (q.places i l)
 
 -- A MARKED LINE OF KIND 7 IS IN EVERY MODULE, and its role is reached from the start: its left side has no names
-pub itself-inside : (ls : List Line) (S : ℕ → Bool) (a : ℕ) (M : ℕ → Bool) (p : IsModule ls S a M) (i r : ℕ) → i < length ls → S i ≡ true → line_at ls i ≡ ToItself r
+pub itself_inside : (ls : List Line) (S : ℕ → Bool) (a : ℕ) (M : ℕ → Bool) (p : IsModule ls S a M) (i r : ℕ) → i < length ls → S i ≡ true → line_at ls i ≡ ToItself r
     → (M i ≡ true) × (p.names (role r) ≡ true)
 unfolding module_in all_in
-itself-inside ls S a M p i r l h e =
+itself_inside ls S a M p i r l h e =
     (p.places i l ∙ rw (h, e), (both_true (p.names (role r)) true (rw e at (p.reached.reaches.goes i l h (rw e)))).0)

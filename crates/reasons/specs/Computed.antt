@@ -1,6 +1,6 @@
 -- The module, the printed set and the question check of their calls, as they are worked out. Only functions that
 -- docs/PROMISES.md lists as inner cite this page. `module_of` is the module by `module_is`, `printed` the printed set by
--- `printed-is`.
+-- `printed_is`.
 use Rattle.std.specs.Prelude.{List, [], Bool, true, false, ◌&&◌, ℕ, zero, suc, ◌+◌, eqb, length, get_or}
 use Rattle.marks.specs.Marks.{marks_fit, marks_of}
 use Rattle.pack.specs.declared.check.Checked.{Checked}

@@ -8,15 +8,15 @@ use lib.ListN.{length, take, drop, set, get_or, length-set, length-append}
 use lib.Seq.{sets, sets-eq, take-suc, take_all, take_at}
 use Rattle.text.specs.Buffer.{put, Wrote}
 
-pub put-length : (buffer : List ℕ) (at : ℕ) (bytes : List ℕ) → length (put buffer at bytes) ≡ length buffer
+pub put_length : (buffer : List ℕ) (at : ℕ) (bytes : List ℕ) → length (put buffer at bytes) ≡ length buffer
 unfolding put
-put-length buffer at [] = refl
-put-length buffer at (b ∷ bytes) = put-length (set buffer at b) (at + 1) bytes ∙ length-set buffer at b
+put_length buffer at [] = refl
+put_length buffer at (b ∷ bytes) = put_length (set buffer at b) (at + 1) bytes ∙ length-set buffer at b
 
-pub put-append : (buffer : List ℕ) (at : ℕ) (xs ys : List ℕ) → put buffer at (xs ++ ys) ≡ put (put buffer at xs) (at + length xs) ys
+pub put_append : (buffer : List ℕ) (at : ℕ) (xs ys : List ℕ) → put buffer at (xs ++ ys) ≡ put (put buffer at xs) (at + length xs) ys
 unfolding put
-put-append buffer at [] ys = ap (λ (k : ℕ). put buffer k ys) (omega arith)
-put-append buffer at (x ∷ xs) ys = put-append (set buffer at x) (at + 1) xs ys ∙ ap (λ (k : ℕ). put (put (set buffer at x) (at + 1) xs) k ys) (omega arith)
+put_append buffer at [] ys = ap (λ (k : ℕ). put buffer k ys) (omega arith)
+put_append buffer at (x ∷ xs) ys = put_append (set buffer at x) (at + 1) xs ys ∙ ap (λ (k : ℕ). put (put (set buffer at x) (at + 1) xs) k ys) (omega arith)
 
 -- WITH ROOM FOR THEM, the bytes stand from `at` on, and before and behind them all is as it was
 put_sets : (buffer : List ℕ) (at : ℕ) (bytes : List ℕ) → put buffer at bytes ≡ sets buffer at bytes
@@ -49,7 +49,7 @@ module _ {before : List ℕ} {at : ℕ} where
       let e = f.behind in
       record {
         behind = omega (arith, g.behind, length-append xs ys);
-        buffer = g.buffer ∙ ap₂ (λ (l : List ℕ) (k : ℕ). put l k ys) f.buffer f.behind ∙ sym (put-append before at xs ys);
+        buffer = g.buffer ∙ ap₂ (λ (l : List ℕ) (k : ℕ). put l k ys) f.buffer f.behind ∙ sym (put_append before at xs ys);
       }
 
 -- of a word that is put in byte by byte, one byte more

@@ -12,9 +12,9 @@ use Rattle.text.specs.Text.{digits, decimal}
 use Rattle.text.proofs.BufferLaws.{wrote_then}
 
 -- a number below 10, and any other, with digits to spare
-digits-one : (most k : ℕ) → k < 10 → digits (suc most) k ≡ (48 + k) ∷ []
+digits_one : (most k : ℕ) → k < 10 → digits (suc most) k ≡ (48 + k) ∷ []
 unfolding digits
-digits-one most k h = rw (lt-ltb k 10 h)
+digits_one most k h = rw (lt-ltb k 10 h)
 
 digits_more : (most k : ℕ) → 10 ≤ k → digits (suc most) k ≡ digits most (k / 10) ++ ((48 + k % 10) ∷ [])
 unfolding digits
@@ -27,16 +27,16 @@ digits_enough (suc a) zero k h g = absurd (omega arith)
 digits_enough (suc a) (suc b) k h g = go (dec_lt k 10) (λ l l'. digits_enough a b (k / 10) l l')
   where
     go : Dec (k < 10) → (k / 10 < a → k / 10 < b → digits a (k / 10) ≡ digits b (k / 10)) → digits (suc a) k ≡ digits (suc b) k
-    go (yes l) rest = digits-one a k l ∙ sym (digits-one b k l)
+    go (yes l) rest = digits_one a k l ∙ sym (digits_one b k l)
     go (no l) rest =
         digits_more a k (omega arith)
         ∙ ap (λ (d : List ℕ). d ++ ((48 + k % 10) ∷ [])) (rest (omega arith) (omega arith))
         ∙ sym (digits_more b k (omega arith))
 
 -- THE TWO RULES of a number in decimal
-pub decimal-one : (k : ℕ) → k < 10 → decimal k ≡ (48 + k) ∷ []
+pub decimal_one : (k : ℕ) → k < 10 → decimal k ≡ (48 + k) ∷ []
 unfolding decimal
-decimal-one k h = digits_enough (k + 1) (suc k) k (omega arith) (omega arith) ∙ digits-one k k h
+decimal_one k h = digits_enough (k + 1) (suc k) k (omega arith) (omega arith) ∙ digits_one k k h
 
 pub decimal_more : (k : ℕ) → 10 ≤ k → decimal k ≡ decimal (k / 10) ++ ((48 + k % 10) ∷ [])
 unfolding decimal
@@ -45,22 +45,22 @@ decimal_more k h =
     ∙ digits_more k k h
     ∙ ap (λ (d : List ℕ). d ++ ((48 + k % 10) ∷ [])) (digits_enough k (k / 10 + 1) (k / 10) (omega arith) (omega arith))
 
-pub decimal-length : (k : ℕ) → 10 ≤ k → length (decimal k) ≡ length (decimal (k / 10)) + 1
-decimal-length k h = ap length (decimal_more k h) ∙ length-append (decimal (k / 10)) ((48 + k % 10) ∷ [])
+pub decimal_length : (k : ℕ) → 10 ≤ k → length (decimal k) ≡ length (decimal (k / 10)) + 1
+decimal_length k h = ap length (decimal_more k h) ∙ length-append (decimal (k / 10)) ((48 + k % 10) ∷ [])
 
 -- a number below 10 ^ (d + 1) has at most d + 1 digits
-pub decimal-most : (d k : ℕ) → k < 10 ^ suc d → length (decimal k) ≤ suc d
-decimal-most zero k h = omega (arith, ap length (decimal-one k (omega arith)))
-decimal-most (suc d) k h = go (dec_lt k 10) (decimal-most d (k / 10))
+pub decimal_most : (d k : ℕ) → k < 10 ^ suc d → length (decimal k) ≤ suc d
+decimal_most zero k h = omega (arith, ap length (decimal_one k (omega arith)))
+decimal_most (suc d) k h = go (dec_lt k 10) (decimal_most d (k / 10))
   where
     go : Dec (k < 10) → (k / 10 < 10 ^ suc d → length (decimal (k / 10)) ≤ suc d) → length (decimal k) ≤ suc (suc d)
-    go (yes l) rest = omega (arith, ap length (decimal-one k l))
-    go (no l) rest = omega (arith, decimal-length k (omega arith), rest (omega (arith, pow-suc 10 (suc d))))
+    go (yes l) rest = omega (arith, ap length (decimal_one k l))
+    go (no l) rest = omega (arith, decimal_length k (omega arith), rest (omega (arith, pow-suc 10 (suc d))))
 
 -- A NUMBER WRITTEN: one digit, or the last digit behind the others
 module _ {before after : List ℕ} {at end : ℕ} (k d : ℕ) where
   pub wrote_digit : k < 10 → d ≡ 48 + k → Wrote (d ∷ []) before at after end → Wrote (decimal k) before at after end
-  wrote_digit h e f = rw (decimal-one k h, ← e) f
+  wrote_digit h e f = rw (decimal_one k h, ← e) f
 
   pub wrote_last : {between : List ℕ} {middle : ℕ} → 10 ≤ k → d ≡ 48 + k % 10 → Wrote (decimal (k / 10)) before at between middle → Wrote (d ∷ []) between middle after end → Wrote (decimal k) before at after end
   wrote_last h e f g = rw (decimal_more k h, ← e) (wrote_then f g)

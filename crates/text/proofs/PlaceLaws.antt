@@ -9,11 +9,11 @@ use native.Mathlib.Numerals.{add-one}
 use native.Mathlib.Omega.{arith}
 use lib.ListN.{length, length-append}
 use Rattle.bits.specs.Sets.{lowest}
-use Rattle.bits.proofs.SetLaws.{Lowest, lowest-is}
+use Rattle.bits.proofs.SetLaws.{Lowest, lowest_is}
 use Rattle.text.specs.Buffer.{Wrote}
 use Rattle.text.specs.Text.{decimal, places}
 use Rattle.text.proofs.BufferLaws.{wrote_none, wrote_then}
-use Rattle.text.proofs.DigitLaws.{decimal-most}
+use Rattle.text.proofs.DigitLaws.{decimal_most}
 
 module _ (P : ℕ → Bool) where
   -- one place further: in the set, or not
@@ -34,8 +34,8 @@ module _ (P : ℕ → Bool) where
   abbrev Step : ℕ → Type 0
   Step i = (length (places P i) ≤ length (places P (i + 1))) × (length (places P (i + 1)) ≤ length (places P i) + (1 + length (decimal i)))
 
-  places-step : (i : ℕ) → Step i
-  places-step i = go (P i) refl
+  places_step : (i : ℕ) → Step i
+  places_step i = go (P i) refl
     where
       go : (t : Bool) → P i ≡ t → Step i
       go true e = let n = ap length (places_on i e) ∙ length-append (places P i) (32 ∷ decimal i) in (omega arith, omega arith)
@@ -43,7 +43,7 @@ module _ (P : ℕ → Bool) where
 
   places_grow : (i c : ℕ) → length (places P i) ≤ length (places P (i + c))
   places_grow i zero = rw add-zero (omega arith)
-  places_grow i (suc c) = omega (arith, places_grow i c, (places-step (i + c)).0, ap (λ (k : ℕ). length (places P k)) (add-suc i c ∙ sym (add-one (i + c))))
+  places_grow i (suc c) = omega (arith, places_grow i c, (places_step (i + c)).0, ap (λ (k : ℕ). length (places P k)) (add-suc i c ∙ sym (add-one (i + c))))
 
   -- room for all places is room for the next one
   places_room : {i c : ℕ} → i < c → P i ≡ true → length (places P i) + (1 + length (decimal i)) ≤ length (places P c)
@@ -63,21 +63,21 @@ module _ (P : ℕ → Bool) where
       omega (
         arith,
         ap (λ (k : ℕ). length (places P k)) (add-suc i c ∙ sym (add-one (i + c))),
-        (places-step (i + c)).1,
-        decimal-most d (i + c) (h (i + c) (omega arith)),
+        (places_step (i + c)).1,
+        decimal_most d (i + c) (h (i + c) (omega arith)),
         places_more d i c (λ j l. h j (omega arith)),
         suc-mul c (d + 2),
       )
 
-  places-none : length (places P 0) ≡ 0
+  places_none : length (places P 0) ≡ 0
   unfolding places
-  places-none = refl
+  places_none = refl
 
-  pub places-most : length (places P 1024) ≤ 4010
-  places-most =
+  pub places_most : length (places P 1024) ≤ 4010
+  places_most =
       omega (
         arith,
-        places-none,
+        places_none,
         places_more 0 0 10 (λ j l. omega arith),
         places_more 1 10 90 (λ j l. omega arith),
         places_more 2 100 900 (λ j l. omega arith),
@@ -100,16 +100,16 @@ module _ (P : ℕ → Bool) {before : List ℕ} {at : ℕ} where
   -- from the places below i to those below the next one
   reach : (i : ℕ) {r : ℕ} {after : List ℕ} {end : ℕ} → i ≤ 1024 → r ≡ lowest P i (1024 - i) → Wrote (places P i) before at after end → Reached P r before at after end
   reach i {r} h e f =
-      let l : Lowest P i (1024 - i) r = rw e (lowest-is P i (1024 - i)) in
+      let l : Lowest P i (1024 - i) r = rw e (lowest_is P i (1024 - i)) in
       let a = l.from in
       let b = l.within in
       let all : i + (r - i) ≡ r = omega arith in
       let same : places P r ≡ places P i = sym (ap (places P) all) ∙ places_skip P i (r - i) (λ j g k. l.none j g (omega arith)) in
       record { within = omega arith; there = λ g. l.found (omega arith); written = rw same f }
 
-  pub reached-start : {r : ℕ} → r ≡ lowest P 0 1024 → Reached P r before at before at
+  pub reached_start : {r : ℕ} → r ≡ lowest P 0 1024 → Reached P r before at before at
   unfolding places
-  reached-start e = reach 0 (omega arith) e wrote_none
+  reached_start e = reach 0 (omega arith) e wrote_none
 
   pub reached_on : (i : ℕ) {r middle end : ℕ} {between after : List ℕ} → i < 1024 → Reached P i before at between middle → Wrote (32 ∷ decimal i) between middle after end → r ≡ lowest P (i + 1) (1024 - (i + 1)) → Reached P r before at after end
   reached_on i h f g e = reach (i + 1) (omega arith) e (rw (places_on P i (f.there h)) (wrote_then f.written g))

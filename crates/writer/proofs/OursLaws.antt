@@ -11,7 +11,7 @@ use lib.Pow.{pow_mono}
 use borrow.Author.Tests.{eq-eqb, le-leb, leb-true}
 use Rattle.bits.specs.Bit.{has}
 use Rattle.bits.proofs.BitLaws.{has_high}
-use Rattle.bits.proofs.SetLaws.{some-false}
+use Rattle.bits.proofs.SetLaws.{some_false}
 use Rattle.bits.proofs.Truth.{true_both}
 use Rattle.pack.specs.declared.check.Checked.TheVariants as checked
 use Rattle.pack.specs.declared.line.Fact.TheVariants.{In}
@@ -21,7 +21,7 @@ use Rattle.pack.specs.Question.{counted}
 use Rattle.pack.specs.Computed.{check_question}
 use Rattle.pack.specs.Record.{lines_of}
 use Rattle.pack.specs.World.{World, Is, Obeys}
-use Rattle.pack.proofs.Parts.{parts-length, parts_all}
+use Rattle.pack.proofs.Parts.{parts_length, parts_all}
 use Rattle.pack.proofs.RecordLaws.{lines_length}
 use Rattle.pack.proofs.QuestionLaws.{asked, asked_valid}
 use Rattle.yes.specs.declared.check.YesAnswer.TheVariants as yes
@@ -33,9 +33,9 @@ use Rattle.no.specs.NoSheet.{row_at, forbidden, world_of}
 use Rattle.no.specs.Computed.{things_by, no_length_by, check_no}
 use Rattle.no.proofs.NoLaws.{world_accepts}
 use Rattle.passes.specs.Ours.{our_steps, our_rows}
-use Rattle.passes.proofs.PassLaws.{not-free-most}
+use Rattle.passes.proofs.PassLaws.{not_free_most}
 use Rattle.passes.proofs.StepsLaws.{ours_good, ours_usable, ours_known, ours_most}
-use Rattle.passes.proofs.RowsLaws.{rows-length, rows_small, our_world, rows_obey, rows_refute}
+use Rattle.passes.proofs.RowsLaws.{rows_length, rows_small, our_world, rows_obey, rows_refute}
 use Rattle.sweep.specs.Writing.{step_bytes}
 use Rattle.engine.specs.Computed.{goal_held}
 use Rattle.writer.specs.Sheet.{yes_bytes, no_bytes}
@@ -44,7 +44,7 @@ use Rattle.writer.proofs.SheetLaws.{zeros_in_lem, step_in_lem, steps_of_lem, row
 -- the world that the bytes of our rows describe is the one of our rows
 module _ (n m : ℕ) (s ws : List ℕ) (few : n ≤ 64) where
   no_whole : length (no_bytes n m s ws) ≡ n * (8 * (1 + m))
-  no_whole = no_length n m s ws ∙ ap (λ (k : ℕ). 8 * k) (rows-length (lines_of s) (counted s ws) n m) ∙ mul_left_comm 8 n (1 + m)
+  no_whole = no_length n m s ws ∙ ap (λ (k : ℕ). 8 * k) (rows_length (lines_of s) (counted s ws) n m) ∙ mul_left_comm 8 n (1 + m)
 
   no_things : things_by m (no_bytes n m s ws) ≡ n
   no_things = ap (λ (k : ℕ). k / (8 * (1 + m))) no_whole ∙ mul-div_cancel n (omega arith)
@@ -66,7 +66,7 @@ module _ (n m : ℕ) (s ws : List ℕ) (few : n ≤ 64) where
 
   no_clean : (i : ℕ) → forbidden n (things_by m (no_bytes n m s ws)) (no_bytes n m s ws) i ≡ false
   unfolding forbidden
-  no_clean i = rw no_things (some-false (λ j. leb (cond (ltb i n) n n) j && has (row_at (no_bytes n m s ws) i) j) 64 (λ j _. at j (ltb i n)))
+  no_clean i = rw no_things (some_false (λ j. leb (cond (ltb i n) n n) j && has (row_at (no_bytes n m s ws) i) j) 64 (λ j _. at j (ltb i n)))
     where
       high : (j : ℕ) (t : Bool) → leb n j ≡ t → (t && has (row_at (no_bytes n m s ws) i) j) ≡ false
       high j true e = ap (λ (w : ℕ). has w j) (no_rows i) ∙ has_high n (get_or (our_rows (lines_of s) (counted s ws) n m) i 0) j (rows_small (lines_of s) (counted s ws) n m i) (leb-true n j e)
@@ -92,9 +92,9 @@ module _ (n m : ℕ) (s ws : List ℕ) (a b : ℕ) {k : ℕ} (taken : check_ques
       let ss = our_steps ls S n m a b in
       let sheet = flatten (map step_bytes ss) in
       let d : Step = record { place = 0; x = 0; y = 0; z = 0 } in
-      let l = parts-length step_bytes (λ s. refl) ss in
+      let l = parts_length step_bytes (λ s. refl) ss in
       let most = ours_most ls S n m a b (asked_valid n m s ws a b taken) (asked n m s ws a b taken).goal_a h in
-      let few = not-free-most n m (asked n m s ws a b taken).pack.n-most (asked n m s ws a b taken).pack.m-most in
+      let few = not_free_most n m (asked n m s ws a b taken).pack.n_most (asked n m s ws a b taken).pack.m_most in
       let size = (asked n m s ws a b taken).pack.size in
       let lines = lines_length s in
       let small : (i : ℕ) → i < length ss → (get_or ss i d).place < 65536 =
@@ -117,12 +117,12 @@ module _ (n m : ℕ) (s ws : List ℕ) (a b : ℕ) {k : ℕ} (taken : check_ques
   no_taken h =
       let ls = lines_of s in
       let S = counted s ws in
-      let few = (asked n m s ws a b taken).pack.n-most in
+      let few = (asked n m s ws a b taken).pack.n_most in
       let there = (asked n m s ws a b taken).goal_a in
       let world = sym (no_world n m s ws few) in
       let things = no_things n m s ws few in
       let goal = rows_refute ls S n m (asked_valid n m s ws a b taken) a b (asked n m s ws a b taken).goal_a (asked n m s ws a b taken).goal_b h in
-      world_accepts n m s ws a b (no_bytes n m s ws) taken (no_fits n m s ws few (asked n m s ws a b taken).pack.n-some) (λ i _. no_clean n m s ws few i)
+      world_accepts n m s ws a b (no_bytes n m s ws) taken (no_fits n m s ws few (asked n m s ws a b taken).pack.n_some) (λ i _. no_clean n m s ws few i)
       (subst (λ (w : World). Obeys w ls S) world (rows_obey ls S n m (asked_valid n m s ws a b taken)))
       a (omega arith)
       (subst (λ (w : World). Is w a a) world goal.0)

@@ -19,7 +19,7 @@ use Rattle.pack.specs.Computed.{check_question, refusal_number, refusal_place}
 use Rattle.pack.specs.Record.{lines_of, record_count}
 use Rattle.pack.specs.Table.{Row, refuse, refuse_with, Given}
 use Rattle.pack.specs.World.{Follows}
-use Rattle.pack.proofs.GivenLaws.{given-one, given-zero, given_after, told, refusal_of}
+use Rattle.pack.proofs.GivenLaws.{given_one, given_zero, given_after, told, refusal_of}
 use Rattle.pack.proofs.Promises.{question_numbered, question_given, taken_admitted}
 use Rattle.yes.specs.declared.check.YesAnswer.TheVariants as yes
 use Rattle.yes.specs.Answers.{GivesYes}
@@ -31,7 +31,7 @@ use Rattle.sheets.proofs.Both.{never_both}
 use Rattle.passes.specs.Ours.{our_steps, our_rows}
 use Rattle.passes.specs.Passes.{finished}
 use Rattle.engine.specs.Computed.{goal_held}
-use Rattle.engine.proofs.VerdictLaws.{finished-few, too_long_never}
+use Rattle.engine.proofs.VerdictLaws.{finished_few, too_long_never}
 use Rattle.engine.proofs.VerdictRight.{held_right}
 use Rattle.writer.specs.declared.write.SheetAnswer.{SheetAnswer}
 use Rattle.writer.specs.declared.write.SheetAnswer.TheVariants as answer
@@ -123,7 +123,7 @@ module _ (n m : ℕ) (s ws : List ℕ) (a b : ℕ) (sheet : List ℕ) where
       given_after (after ≡ sheet) (given after) {k = number} {v = value} (question_rows n m s ws a b) (refuse 6 (36800 < length (finished (lines_of s) (counted s ws) n m)) ∷ room_rows) (record_count s) question_numbered (checked.Count k)
       (rw e at (question_given n m s ws a b))
       (λ why h. clash cc)
-      (λ j h. inr ((λ _ _ q. omega (arith, q.0, finished-few n m s ws a b e)), g))
+      (λ j h. inr ((λ _ _ q. omega (arith, q.0, finished_few n m s ws a b e)), g))
 
   -- THE WRITER GIVES WHAT ITS ROWS SAY
   pub sheet_given : GivesSheet n m s ws a b sheet (written_sheet n m s ws a b sheet) (sheet_number (ask_sheet n m s ws a b sheet)) (sheet_value (ask_sheet n m s ws a b sheet))
@@ -166,7 +166,7 @@ module _ (n m : ℕ) (s ws : List ℕ) (a b : ℕ) (sheet : List ℕ) where
   -- one number, one value and one later content are given
   pub sheet_same : {k v k' v' : ℕ} {after after' : List ℕ} → GivesSheet n m s ws a b sheet after k v → GivesSheet n m s ws a b sheet after' k' v' → (k ≡ k') × (v ≡ v') × (after ≡ after')
   sheet_same {after = after} {after' = after'} g h =
-      let e = given-one (after ≡ sheet) (after' ≡ sheet) (given after) (given after') (sheet_rows n m s ws a b sheet) g h in
+      let e = given_one (after ≡ sheet) (after' ≡ sheet) (given after) (given after') (sheet_rows n m s ws a b sheet) g h in
       ⊎_elim (λ r. (e.0, r.0, r.1 ∙ sym r.2)) (λ r. let o = given_sheet_one r.0 r.1 in (e.0, o.0, o.1)) e.1
 
   -- NO SECOND RESULT, no second later content of the sheet
@@ -178,7 +178,7 @@ module _ (n m : ℕ) (s ws : List ℕ) (a b : ℕ) (sheet : List ℕ) where
 
   -- WHAT THE WRITER SAYS IS SO OF WHAT IT WROTE: so many steps or rows of the sheet afterwards are accepted
   pub joined : Taken n m s ws a b → {after : List ℕ} {v : ℕ} → GivesSheet n m s ws a b sheet after 0 v → Shows n m s ws a b after v
-  joined t {after} {v} g = by (given-zero (after ≡ sheet) (given after) (sheet_rows n m s ws a b sheet) (omega arith, (omega arith, (omega arith, (omega arith, (omega arith, (omega arith, (omega arith, (omega arith, tt)))))))) g)
+  joined t {after} {v} g = by (given_zero (after ≡ sheet) (given after) (sheet_rows n m s ws a b sheet) (omega arith, (omega arith, (omega arith, (omega arith, (omega arith, (omega arith, (omega arith, (omega arith, tt)))))))) g)
     where
       by : given after v → Shows n m s ws a b after v
       by (inl r) = (

@@ -14,7 +14,7 @@ use Rattle.bits.specs.Lists.{listed}
 use Rattle.bits.proofs.BitLaws.{has_high}
 use Rattle.bits.proofs.Truth.{never}
 use Rattle.bits.proofs.RowLaws.{row_only}
-use Rattle.bits.proofs.ListLaws.{listed-is}
+use Rattle.bits.proofs.ListLaws.{listed_is}
 use Rattle.pack.specs.declared.check.Checked.TheVariants as checked
 use Rattle.pack.specs.declared.line.Fact.{Fact}
 use Rattle.pack.specs.declared.line.Fact.TheVariants.{In, Link}
@@ -144,7 +144,7 @@ module _ (n m : ℕ) (ls : List Line) (S : ℕ → Bool) (blank cs lks sheet : L
           rw e (link_row r x lr lm lx w ∙ sym (row_links ls S n m r x lr lx) ∙ ap (λ (j : ℕ). get_or (our_rows ls S n m) j 0) there)
 
   our_rows_lem : m ≤ 8 → listed (n * (1 + m)) 0 (row_in n cs lks) ≡ our_rows ls S n m
-  our_rows_lem lm = listed-is (row_in n cs lks) 0 (n * (1 + m)) (our_rows ls S n m) (ours.rows-length ls S n m) (row_at_lem lm)
+  our_rows_lem lm = listed_is (row_in n cs lks) 0 (n * (1 + m)) (our_rows ls S n m) (ours.rows_length ls S n m) (row_at_lem lm)
 
 -- the sheets of a question that is taken
 module _ (n m : ℕ) (s ws : List ℕ) (a b : ℕ) {c : ℕ} (taken : check_question n m s ws a b ≡ checked.Count c) (sheet : List ℕ) where
@@ -198,7 +198,7 @@ module _ (n m : ℕ) (s ws : List ℕ) (a b : ℕ) {c : ℕ} (taken : check_ques
       end = end_not n m s ws a b taken differ blank cs lks blank' k ran h
 
       ours_long : length (no_bytes n m s ws) ≡ n * (1 + m) * 8
-      ours_long = no_length n m s ws ∙ omega (arith, ours.rows-length (lines_of s) (counted s ws) n m)
+      ours_long = no_length n m s ws ∙ omega (arith, ours.rows_length (lines_of s) (counted s ws) n m)
 
       go : Dec (length sheet < n * (1 + m) * 8) → Answers n m s ws a b taken sheet r after
       go (yes l) =
@@ -209,6 +209,6 @@ module _ (n m : ℕ) (s ws : List ℕ) (a b : ℕ) {c : ℕ} (taken : check_ques
           let room : n * (1 + m) * 8 ≤ length sheet = omega arith in
           let d : r ≡ answer.Not (n * (1 + m)) = e ∙ sym (no_fits (n * (1 + m)) room) in
           let same : words_bytes (listed (n * (1 + m)) 0 (row_in n cs lks)) ≡ no_bytes n m s ws =
-          ap words_bytes (our_rows_lem n m (lines_of s) (counted s ws) blank cs lks blank' k q.pack.n-some q.pack.n-most end.1 (words room) q.pack.m-most) in
+          ap words_bytes (our_rows_lem n m (lines_of s) (counted s ws) blank cs lks blank' k q.pack.n_some q.pack.n_most end.1 (words room) q.pack.m_most) in
           let g : after ≡ no_bytes n m s ws ++ drop (n * (1 + m) * 8) sheet = f ∙ rw (d, same, ours_long) in
           rw (d, g) (long_enough n m s ws a b taken sheet false end.0 (no_bytes n m s ws) (n * (1 + m)) refl ours_long room)

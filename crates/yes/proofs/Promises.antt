@@ -18,7 +18,7 @@ use Rattle.pack.specs.Computed.{check_question, refusal_number, refusal_place}
 use Rattle.pack.specs.Record.{lines_of, record_count}
 use Rattle.pack.specs.Table.{Given}
 use Rattle.pack.specs.World.{Follows}
-use Rattle.pack.proofs.GivenLaws.{given-same, passes, lowest-here, lowest-none, given_after, given-zero, told, refusal_of}
+use Rattle.pack.proofs.GivenLaws.{given_same, passes, lowest_here, lowest_none, given_after, given_zero, told, refusal_of}
 use Rattle.pack.proofs.Promises.{question_numbered, question_given, taken_admitted}
 use Rattle.yes.specs.declared.check.YesAnswer.{YesAnswer}
 use Rattle.yes.specs.declared.check.YesAnswer.TheVariants as yes
@@ -75,9 +75,9 @@ module _ (n m : ℕ) (s ws : List ℕ) (a b : ℕ) (sheet : List ℕ) where
           (r ≡ yes.Accepted → Follows (lines_of s) S a b) → Given (Unit {0}) (step_rows (lines_of s) S n a b sheet) accepted (yes_number r) (yes_place r)
       go false t u e f g h = inl ((e, refl, refl), tt)
       go true true u e f g h =
-          inr (passes e, inl (lowest-here bad (λ i. good_at (lines_of s) S n sheet i ≡ false) count (λ i _ q. not-true (good_at (lines_of s) S n sheet i) q) (λ i _ q. ap not q) 10 (ltb-true low count f), tt))
+          inr (passes e, inl (lowest_here bad (λ i. good_at (lines_of s) S n sheet i ≡ false) count (λ i _ q. not-true (good_at (lines_of s) S n sheet i) q) (λ i _ q. ap not q) 10 (ltb-true low count f), tt))
       go true false u e f g h =
-          inr (passes e, inr (lowest-none bad (λ i. good_at (lines_of s) S n sheet i ≡ false) count (λ i _ q. not-true (good_at (lines_of s) S n sheet i) q) (λ i _ q. ap not q) (ltb-false low count f), shown u g h))
+          inr (passes e, inr (lowest_none bad (λ i. good_at (lines_of s) S n sheet i ≡ false) count (λ i _ q. not-true (good_at (lines_of s) S n sheet i) q) (λ i _ q. ap not q) (ltb-false low count f), shown u g h))
         where
           shown : (u : Bool) → known (lines_of s) n (steps_of sheet) (In a b) ≡ u → let r = cond u yes.Accepted yes.NotShown in (r ≡ yes.Accepted → Follows (lines_of s) S a b)
               → ((((known (lines_of s) n (steps_of sheet) (In a b) ≡ false) × (yes_number r ≡ 13) × (yes_place r ≡ 0)) × Unit {0}) ⊎ (((k v : ℕ) → (known (lines_of s) n (steps_of sheet) (In a b) ≡ false) × (k ≡ 13) × (v ≡ 0) → ⊥) × ((yes_number r ≡ 0) × accepted (yes_place r))))
@@ -93,7 +93,7 @@ module _ (n m : ℕ) (s ws : List ℕ) (a b : ℕ) (sheet : List ℕ) where
 
   -- one number and one value are given
   pub yes_same : {k v k' v' : ℕ} → GivesYes n m s ws a b sheet k v → GivesYes n m s ws a b sheet k' v' → (k ≡ k') × (v ≡ v')
-  yes_same = given-same (Unit {0}) accepted (question_rows n m s ws a b ++ step_rows (lines_of s) (counted s ws) n a b sheet) (λ x y g h. no_second g.0 h.0)
+  yes_same = given_same (Unit {0}) accepted (question_rows n m s ws a b ++ step_rows (lines_of s) (counted s ws) n a b sheet) (λ x y g h. no_second g.0 h.0)
 
   -- NO SECOND RESULT
   pub yes_fixed : (r r' : YesAnswer) → GivesYes n m s ws a b sheet (yes_told r).0 (yes_told r).1 → GivesYes n m s ws a b sheet (yes_told r').0 (yes_told r').1 → r ≡ r'
@@ -102,7 +102,7 @@ module _ (n m : ℕ) (s ws : List ℕ) (a b : ℕ) (sheet : List ℕ) where
   -- AN ACCEPTED SHEET IS RIGHT: the goal follows from the records that count
   pub yes_right : {v : ℕ} → GivesYes n m s ws a b sheet 0 v → Follows (lines_of s) (counted s ws) a b
   yes_right g =
-      (given-zero (Unit {0}) accepted (question_rows n m s ws a b ++ step_rows (lines_of s) (counted s ws) n a b sheet)
+      (given_zero (Unit {0}) accepted (question_rows n m s ws a b ++ step_rows (lines_of s) (counted s ws) n a b sheet)
       (omega arith, (omega arith, (omega arith, (omega arith, (omega arith, (omega arith, (omega arith, (omega arith, tt)))))))) g
       ).1
 

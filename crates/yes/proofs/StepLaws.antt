@@ -19,7 +19,7 @@ use Rattle.pack.specs.Record.{lines_of, line_at_place, Valid}
 use Rattle.pack.specs.Question.{counted}
 use Rattle.pack.specs.Rules.{rule_of, rule_at, premise_one_of, premise_two_of, conclusion_of, numbers_fit, usable}
 use Rattle.pack.proofs.RecordLaws.{lines_length, lines_at}
-use Rattle.pack.proofs.RuleLaws.{usable-is}
+use Rattle.pack.proofs.RuleLaws.{usable_is}
 use Rattle.pack.proofs.Ranges.{step_range}
 use Rattle.pack.proofs.Soundness.{free_self}
 use Rattle.tables.specs.Tables.{in_table, added_concepts, added_links}
@@ -71,12 +71,12 @@ module _ (ls : List Line) (S : ℕ → Bool) (n : ℕ) where
   -- A STEP OF KIND 7 NEEDS NOTHING before it: where it may be taken it is good
   pub itself_good : (r : ℕ) (ss : List Step) (s : Step) → line_at ls s.place ≡ ToItself r → usable ls S n s ≡ true → good_over ls S n (known ls n ss) s ≡ true
   unfolding good_over known
-  itself_good r ss s e u = rw (u, e, premises_known, free_self n s.x (usable-is u).fits_x)
+  itself_good r ss s e u = rw (u, e, premises_known, free_self n s.x (usable_is u).fits_x)
 
 -- THE CONCLUSION OF A USABLE STEP has a place in the tables
 pub conclusion_in_table : (n m : ℕ) → n ≤ 64 → m ≤ 8 → (ls : List Line) (S : ℕ → Bool) (s : Step) → Valid n m ls → usable ls S n s ≡ true → in_table (conclusion_of ls s) ≡ true
 conclusion_in_table n m few roles ls S s v e =
-    in_table_lem n m few roles (conclusion_of ls s) (step_range ls S n m v s (usable-is e)).2
+    in_table_lem n m few roles (conclusion_of ls s) (step_range ls S n m v s (usable_is e)).2
 
 -- NO SECOND RESULT, and no second later content of the rows, satisfies the promise of the check of a step; right and f are what
 -- the definitions give for the step and its conclusion

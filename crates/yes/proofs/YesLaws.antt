@@ -11,8 +11,8 @@ use lib.ListN.{length, take}
 use lib.Seq.{take-suc, take_all}
 use borrow.Author.Tests.{ltb-false, lt-ltb, le-ltb, not-false}
 use Rattle.bits.proofs.Truth.{both_true, or_elim, clash, cond_first, cond_second}
-use Rattle.bits.proofs.SetLaws.{none-lowest, Left, left_start, left_on, left_here, left_end, first_none}
-use Rattle.bits.proofs.ListLaws.{listed-length, listed_at}
+use Rattle.bits.proofs.SetLaws.{none_lowest, Left, left_start, left_on, left_here, left_end, first_none}
+use Rattle.bits.proofs.ListLaws.{listed_length, listed_at}
 use Rattle.pack.specs.declared.check.Refusal.{Refusal}
 use Rattle.pack.specs.declared.check.Checked.{Checked}
 use Rattle.pack.specs.declared.check.Checked.TheVariants as checked
@@ -26,10 +26,10 @@ use Rattle.pack.specs.Bytes.{part}
 use Rattle.pack.specs.Record.{lines_of, Valid}
 use Rattle.pack.specs.Question.{counted}
 use Rattle.pack.specs.Computed.{check_question}
-use Rattle.pack.proofs.RuleLaws.{same-one}
+use Rattle.pack.proofs.RuleLaws.{same_one}
 use Rattle.pack.proofs.Soundness.{derived_follows}
 use Rattle.tables.specs.Tables.{held_in, held, added_concepts, added_links, start_tables, Whole}
-use Rattle.tables.proofs.TableLaws.{start-whole, start-held, held_added, whole_added}
+use Rattle.tables.proofs.TableLaws.{start_whole, start_held, held_added, whole_added}
 use Rattle.yes.specs.declared.check.YesAnswer.{YesAnswer}
 use Rattle.yes.specs.declared.check.YesAnswer.TheVariants as yes
 use Rattle.yes.specs.YesSheet.{step_in, zeros_in, steps_of, concluded, known, good_over, good_at, yes_length_fits}
@@ -39,7 +39,7 @@ use Rattle.yes.proofs.StepLaws.{good_same, good, conclusion_in_table}
 -- the steps of a sheet, one more
 pub steps_length : (sheet : List ℕ) → length (steps_of sheet) ≡ length sheet / 8
 unfolding steps_of
-steps_length sheet = listed-length (λ i. step_in (part sheet i)) (length sheet / 8) 0
+steps_length sheet = listed_length (λ i. step_in (part sheet i)) (length sheet / 8) 0
 
 steps_more : (sheet : List ℕ) (i : ℕ) → i < length sheet / 8 → take (i + 1) (steps_of sheet) ≡ take i (steps_of sheet) ++ (step_in (part sheet i) ∷ [])
 unfolding steps_of
@@ -88,8 +88,8 @@ module _ (ls : List Line) (S : ℕ → Bool) (n : ℕ) (sheet : List ℕ) where
   pub good_none : n ≤ 64 → GoodBefore (start_tables n).concepts (start_tables n).links 0
   unfolding lowest_bad
   good_none h = record {
-    whole = start-whole n;
-    holds = λ f. start-held n h f ∙ sym (known_first ls n sheet f);
+    whole = start_whole n;
+    holds = λ f. start_held n h f ∙ sym (known_first ls n sheet f);
     left = left_start fails_at (length sheet / 8) refl;
   }
 
@@ -155,7 +155,7 @@ module _ (ls : List Line) (S : ℕ → Bool) (n : ℕ) (sheet : List ℕ) where
   good_accepted : {a b : ℕ} → AllGood a b → check_steps ls S n a b sheet ≡ yes.Accepted
   unfolding check_steps lowest_bad
   good_accepted {a} {b} g =
-      let none = none-lowest fails_at 0 (length sheet / 8) (λ j h l. ap not (g.all j (omega (arith, zero-add (length sheet / 8))))) in
+      let none = none_lowest fails_at 0 (length sheet / 8) (λ j h l. ap not (g.all j (omega (arith, zero-add (length sheet / 8))))) in
       rw (le-ltb (lowest_bad ls S n sheet) (length sheet / 8) (omega arith), g.goal)
 
   -- WHAT IS KNOWN AFTER GOOD STEPS is derived from the free facts
@@ -169,7 +169,7 @@ module _ (ls : List Line) (S : ℕ → Bool) (n : ℕ) (sheet : List ℕ) where
       or_elim (known ls n (take i (steps_of sheet)) f) (same_fact (conclusion_of ls s) f)
       (sym (known_more ls n sheet i (omega arith) f) ∙ ap (λ (k : ℕ). known ls n (take k (steps_of sheet)) f) (add-one i) ∙ h)
       (earlier f)
-      (λ e. by s step.may (earlier _ step.one) (earlier _ step.two) (same-one (conclusion_of ls s) f e))
+      (λ e. by s step.may (earlier _ step.one) (earlier _ step.two) (same_one (conclusion_of ls s) f e))
 
   good_follows : {a b : ℕ} → AllGood a b → Follows ls S a b
   good_follows {a} {b} g =

@@ -1,6 +1,6 @@
 -- `not_text`: the question is taken (`given_taken`), so the parts are what the lines tell (`writes_not`).
 use mathlib.Core.Path.{refl}
-use Rattle.lines.proofs.TakenLaws.{given_taken, given_taken_first, given-not}
+use Rattle.lines.proofs.TakenLaws.{given_taken, given_taken_first, given_not}
 use Rattle.lines.proofs.PrintLaws.{writes_not}
 use Rattle.lines.proofs.question.not_text.Goals as goal
 
@@ -17,5 +17,5 @@ module_marks-module-requires c =
 pub returns : goal.returns
 returns c =
     let x = c.args in
-    let rows = c.sheet_parts-rows.ensures.1 (given-not x.n x.m x.pack.now x.marks.now x.a x.b c.requires refl) in
+    let rows = c.sheet_parts-rows.ensures.1 (given_not x.n x.m x.pack.now x.marks.now x.a x.b c.requires refl) in
     writes_not x.n x.m x.pack.now x.marks.now x.a x.b c.requires rows c.module_marks-module.ensures c.write_not.ensures

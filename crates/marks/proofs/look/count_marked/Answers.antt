@@ -5,7 +5,7 @@ use native.Mathlib.Omega.{arith}
 use lib.ListN.{get_or}
 use Rattle.bits.specs.Bit.{has}
 use Rattle.bits.specs.Sets.{count_to}
-use Rattle.bits.proofs.SetLaws.{count-le}
+use Rattle.bits.proofs.SetLaws.{count_le}
 use Rattle.marks.specs.Marks.{marked}
 use Rattle.marks.proofs.MarkLaws.{count_word}
 use Rattle.marks.proofs.look.count_marked.Goals as goal
@@ -16,7 +16,7 @@ added : (c : After-count_bits-n) → c.count_bits-n.result ≡ count_to (has (ge
 added c = rw c.mark_word.ensures at c.count_bits-n.ensures
 
 few : (c : After-count_bits-n) → c.count_bits-n.result ≤ 64
-few c = omega (arith, added c, count-le (has (get_or c.args.marks.now c.loop-j.j 0)) 64)
+few c = omega (arith, added c, count_le (has (get_or c.args.marks.now c.loop-j.j 0)) 64)
 
 pub loop-j-init : goal.loop-j-init
 unfolding count_to

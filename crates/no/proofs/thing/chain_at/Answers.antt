@@ -7,7 +7,7 @@ use native.Mathlib.Omega.{arith}
 use Rattle.bits.specs.Bit.{has}
 use Rattle.no.specs.NoSheet.{row_at}
 use Rattle.no.proofs.WorldRows.{link_below}
-use Rattle.no.proofs.ThingLaws.{OkBefore, pass-start, pass_bit, pass_on, pass_end, pass_fails}
+use Rattle.no.proofs.ThingLaws.{OkBefore, pass_start, pass_bit, pass_on, pass_end, pass_fails}
 use Rattle.no.proofs.thing.chain_at.Invariants.{Okay}
 use Rattle.no.proofs.thing.chain_at.Goals as goal
 use Rattle.no.proofs.thing.chain_at.Goals.{After-next_bit-y-then-row_inside, After-row_inside, In-loop-y}
@@ -40,7 +40,7 @@ link_row-whole-requires c = (c.requires.0, c.requires.3, c.requires.4)
 pub loop-y-init : goal.loop-y-init
 loop-y-init c =
     let e = c.link_row-rest.ensures in
-    rw e (pass-start _ _ (rw e at c.next_bit-y.ensures))
+    rw e (pass_start _ _ (rw e at c.next_bit-y.ensures))
 
 pub link_row-then-requires : goal.link_row-then-requires
 link_row-then-requires c =

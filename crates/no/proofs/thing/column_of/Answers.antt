@@ -5,12 +5,12 @@ use native.Mathlib.Omega.{arith}
 use borrow.Author.Tests.{le-ltb}
 use Rattle.bits.specs.Bit.{has}
 use Rattle.bits.proofs.RowLaws.{column_on}
-use Rattle.bits.proofs.BitLaws.{has-zero, column_bits}
+use Rattle.bits.proofs.BitLaws.{has_zero, column_bits}
 use Rattle.no.specs.NoSheet.{row_at}
 use Rattle.no.proofs.thing.column_of.Goals as goal
 
 pub loop-y-init : goal.loop-y-init
-loop-y-init c = (omega arith, λ j. has-zero j ∙ rw (le-ltb j 0 (omega arith)))
+loop-y-init c = (omega arith, λ j. has_zero j ∙ rw (le-ltb j 0 (omega arith)))
 
 pub row_at-row-requires : goal.row_at-row-requires
 row_at-row-requires c = omega (arith, c.requires.0.rows)

@@ -1,5 +1,5 @@
 -- `thing_obeys`: variant by variant, on whole rows: a test of 64 bits says what the world says of its k things
--- (`meets_things`, `inside-things`, `chain_things`).
+-- (`meets_things`, `inside_things`, `chain_things`).
 use mathlib.Core.Path.{ap, ◌∙◌}
 use mathlib.Core.Bool.{Bool}
 use native.Mathlib.Omega.{arith}
@@ -7,7 +7,7 @@ use Rattle.bits.specs.Bit.{has}
 use Rattle.bits.proofs.BitLaws.{low}
 use Rattle.pack.specs.Computed.{implies, obeys_at}
 use Rattle.no.specs.NoSheet.{row_at}
-use Rattle.no.proofs.WorldRows.{meets_things, inside-things, chain_things}
+use Rattle.no.proofs.WorldRows.{meets_things, inside_things, chain_things}
 use Rattle.no.proofs.thing.thing_obeys.Goals as goal
 
 pub row_under-requires : goal.row_under-requires
@@ -74,7 +74,7 @@ returns-in-RoleUnder c =
     let pre = c.requires in
     let fits = rw c.in-RoleUnder.is at pre.1 in
     rw c.in-RoleUnder.is
-    ((rw (c.link_row-in-RoleUnder-2.ensures, c.link_row-in-RoleUnder.ensures) at c.row_inside.ensures) ∙ inside-things _ _ _ _ _ pre.0.few fits.0 pre.3)
+    ((rw (c.link_row-in-RoleUnder-2.ensures, c.link_row-in-RoleUnder.ensures) at c.row_inside.ensures) ∙ inside_things _ _ _ _ _ pre.0.few fits.0 pre.3)
 
 pub returns-in-ChainUnder : goal.returns-in-ChainUnder
 unfolding obeys_at

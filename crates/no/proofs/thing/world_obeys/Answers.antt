@@ -1,8 +1,8 @@
--- `world_obeys`: every thing before x obeys; one that does not makes it no (`every-false`), else yes (`true-every`).
+-- `world_obeys`: every thing before x obeys; one that does not makes it no (`every_false`), else yes (`true_every`).
 use mathlib.Core.Path.{sym, ◌∙◌}
 use native.Mathlib.Omega.{arith}
 use borrow.Author.Count.{below_more}
-use Rattle.bits.proofs.SetLaws.{true-every, every-false}
+use Rattle.bits.proofs.SetLaws.{true_every, every_false}
 use Rattle.pack.specs.Computed.{obeys}
 use Rattle.no.proofs.thing.world_obeys.Goals as goal
 
@@ -20,8 +20,8 @@ loop-x-preserved c = (omega arith, below_more _ _ c.loop-x.invariant.1 (sym c.th
 
 pub returns-else-thing_obeys : goal.returns-else-thing_obeys
 unfolding obeys
-returns-else-thing_obeys c = sym (every-false _ _ c.loop-x.x c.loop-x-test.true (sym c.thing_obeys.ensures ∙ c.if-thing_obeys.false))
+returns-else-thing_obeys c = sym (every_false _ _ c.loop-x.x c.loop-x-test.true (sym c.thing_obeys.ensures ∙ c.if-thing_obeys.false))
 
 pub returns : goal.returns
 unfolding obeys
-returns c = sym (true-every _ _ (λ j h. c.loop-x.invariant.1 j (omega arith)))
+returns c = sym (true_every _ _ (λ j h. c.loop-x.invariant.1 j (omega arith)))

@@ -1,4 +1,4 @@
--- `world_obeys`: every thing before x obeys; one that does not makes it no (`every-false`), else yes (`true-every`).
+-- `world_obeys`: every thing before x obeys; one that does not makes it no (`every_false`), else yes (`true_every`).
 use mathlib.Core.Path.{◌≡◌}
 use mathlib.Core.Bool.{true}
 use Prim.Native.Nat.{ℕ, ◌≤◌, ◌<◌, ◌-◌}

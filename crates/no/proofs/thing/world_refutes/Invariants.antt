@@ -1,4 +1,4 @@
--- `world_refutes`: no thing before x refutes; one that does makes it yes (`true-some`), else no (`some-false`).
+-- `world_refutes`: no thing before x refutes; one that does makes it yes (`true_some`), else no (`some_false`).
 use mathlib.Core.Path.{◌≡◌}
 use mathlib.Core.Bool.{false, not, ◌&&◌}
 use Prim.Native.Nat.{ℕ, ◌≤◌, ◌<◌, ◌-◌}

@@ -3,7 +3,7 @@ use mathlib.Core.Path.{◌≡◌, refl, ap, ◌∙◌}
 use mathlib.Core.List.{append-nil}
 use native.Mathlib.Omega.{arith}
 use lib.ListN.{length, get_or, length-take, length-drop, drop_of_length-le}
-use Rattle.bits.proofs.ListLaws.{listed-is}
+use Rattle.bits.proofs.ListLaws.{listed_is}
 use Rattle.pack.proofs.BytesLaws.{filled_start, filled_length, filled_more}
 use Rattle.pack.proofs.bytes.write_marks.Goals as goal
 use Rattle.pack.proofs.bytes.write_marks.Goals.{In-loop-j}
@@ -39,4 +39,4 @@ returns c =
     let a = c.args in
     let pre = c.requires in
     let e : l.j ≡ 16 = omega arith in
-    l.invariant.1 ∙ rw (e, listed-is (λ i. get_or a.words.now i 0) 0 16 a.words.now pre.0 (λ i h. refl), drop_of_length-le a.out.now {i = 128} (omega arith)) (append-nil _)
+    l.invariant.1 ∙ rw (e, listed_is (λ i. get_or a.words.now i 0) 0 16 a.words.now pre.0 (λ i h. refl), drop_of_length-le a.out.now {i = 128} (omega arith)) (append-nil _)

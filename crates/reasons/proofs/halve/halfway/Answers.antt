@@ -1,7 +1,7 @@
 -- `halfway`: half goes on by one marked place while whole, which is marked and ahead, goes on by two; so the next
--- half is at most whole (`lowest-least`), and below the end.
+-- half is at most whole (`lowest_least`), and below the end.
 use native.Mathlib.Omega.{arith}
-use Rattle.bits.proofs.SetLaws.{lowest-least}
+use Rattle.bits.proofs.SetLaws.{lowest_least}
 use Rattle.marks.proofs.MarkLaws.{next_lowest}
 use Rattle.reasons.proofs.halve.halfway.Goals as goal
 
@@ -37,7 +37,7 @@ loop-whole-smaller c = omega (arith, (next_lowest _ _ _ c.next_marked-half-in-lo
 pub loop-whole-preserved : goal.loop-whole-preserved
 loop-whole-preserved c =
     let l = c.loop-whole in
-    let least = lowest-least _ (next_lowest _ _ _ c.next_marked-half-in-loop-whole.ensures) l.whole (omega (arith, l.invariant.2)) (l.invariant.3 (omega (arith, c.requires.0))) in (
+    let least = lowest_least _ (next_lowest _ _ _ c.next_marked-half-in-loop-whole.ensures) l.whole (omega (arith, l.invariant.2)) (l.invariant.3 (omega (arith, c.requires.0))) in (
       omega (arith, l.invariant.0, (next_lowest _ _ _ c.next_marked-half-in-loop-whole.ensures).from),
       omega (arith, least),
       omega (arith, least, (next_lowest _ _ _ c.next_marked-in-loop-whole.ensures).from, (next_lowest _ _ _ c.next_marked-whole-in-loop-whole.ensures).from),

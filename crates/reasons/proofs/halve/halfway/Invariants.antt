@@ -1,5 +1,5 @@
 -- `halfway`: half goes on by one marked place while whole, which is marked and ahead, goes on by two; so the next
--- half is at most whole (`lowest-least`), and below the end.
+-- half is at most whole (`lowest_least`), and below the end.
 use mathlib.Core.Path.{◌≡◌}
 use mathlib.Core.Bool.{true}
 use Prim.Native.Nat.{◌<◌, ◌-◌}

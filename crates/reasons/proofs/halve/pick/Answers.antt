@@ -4,7 +4,7 @@ use mathlib.Core.Path.{sym, ap, ◌∙◌}
 use native.Mathlib.Omega.{arith}
 use lib.ListN.{length}
 use Rattle.marks.proofs.MarkLaws.{next_lowest}
-use Rattle.marks.proofs.WordLaws.{marks-length, sixteen_again}
+use Rattle.marks.proofs.WordLaws.{marks_length, sixteen_again}
 use Rattle.reasons.proofs.AskLaws.{fewer_taken, pick_start, pick_next, pick_end}
 use Rattle.reasons.proofs.halve.pick.Goals as goal
 
@@ -27,7 +27,7 @@ pub slice_bounds-cut_marks-end : goal.slice_bounds-cut_marks-end
 slice_bounds-cut_marks-end c = sym (sixteen_again _ c.loop-i.invariant.words)
 
 pub slice_bounds-next_marked-end-in-loop-i : goal.slice_bounds-next_marked-end-in-loop-i
-slice_bounds-next_marked-end-in-loop-i c = sym (ap length c.cut_marks-rest.ensures ∙ marks-length _)
+slice_bounds-next_marked-end-in-loop-i c = sym (ap length c.cut_marks-rest.ensures ∙ marks_length _)
 
 pub overflow_add-k : goal.overflow_add-k
 overflow_add-k c = omega (arith, c.next_kept-k.ensures.most)

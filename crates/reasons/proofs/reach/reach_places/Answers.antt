@@ -6,7 +6,7 @@ use Prim.Native.Nat.{◌+◌, ◌*◌, ◌<◌}
 use native.Mathlib.Omega.{arith}
 use lib.Dec.{eqb}
 use lib.ListN.{length}
-use Rattle.bits.proofs.SetLaws.{Lowest, lowest-is}
+use Rattle.bits.proofs.SetLaws.{Lowest, lowest_is}
 use Rattle.marks.specs.Marks.{marked}
 use Rattle.marks.proofs.MarkLaws.{next_lowest}
 use Rattle.pack.specs.declared.line.Line.{Line}
@@ -29,7 +29,7 @@ there c = omega (arith, lines_length c.args.pack.now)
 pub loop-i-init : goal.loop-i-init
 loop-i-init c =
     let a = c.args in
-    let low : Lowest (marked a.places.now) 0 1024 c.next_marked-i.result = rw c.next_marked-i.ensures (lowest-is (marked a.places.now) 0 1024) in
+    let low : Lowest (marked a.places.now) 0 1024 c.next_marked-i.result = rw c.next_marked-i.ensures (lowest_is (marked a.places.now) 0 1024) in
     (c.requires.2, λ l. low.found (omega (arith, c.requires.1)), walked_start _ _ _ _ low)
 
 pub reach_line-reached-requires : goal.reach_line-reached-requires

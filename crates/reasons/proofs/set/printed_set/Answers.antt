@@ -1,7 +1,7 @@
--- `printed_set`: the question's refusal (`set-refused`), or what the verdict lets be written (`set_taken`).
+-- `printed_set`: the question's refusal (`set_refused`), or what the verdict lets be written (`set_taken`).
 use mathlib.Core.Path.{sym, ◌∙◌}
 use Rattle.reasons.proofs.OutLaws.{reason_taken}
-use Rattle.reasons.proofs.Promises.{set-refused, set_taken}
+use Rattle.reasons.proofs.Promises.{set_refused, set_taken}
 use Rattle.reasons.proofs.set.printed_set.Goals as goal
 
 pub set_taken-requires : goal.set_taken-requires
@@ -13,7 +13,7 @@ set_taken-requires c =
 pub returns-in-Refused : goal.returns-in-Refused
 returns-in-Refused c =
     let a = c.args in
-    set-refused a.n a.m a.pack.now a.marks.now a.a a.b a.out.now {why = c.in-Refused.why} (sym c.check_reason-checked.ensures ∙ c.in-Refused.is)
+    set_refused a.n a.m a.pack.now a.marks.now a.a a.b a.out.now {why = c.in-Refused.why} (sym c.check_reason-checked.ensures ∙ c.in-Refused.is)
 
 pub returns-in-Count : goal.returns-in-Count
 returns-in-Count c =

@@ -1,11 +1,11 @@
 -- `put_places`: the places below i are written, and i is the next one (`Reached`); it goes from marked place to marked place.
 use native.Mathlib.Omega.{arith}
 use Rattle.marks.proofs.MarkLaws.{next_lowest}
-use Rattle.text.proofs.PlaceLaws.{reached-start, reached_on, reached_room, reached_end}
+use Rattle.text.proofs.PlaceLaws.{reached_start, reached_on, reached_room, reached_end}
 use Rattle.text.proofs.line.put_places.Goals as goal
 
 pub loop-i-init : goal.loop-i-init
-loop-i-init c = reached-start _ c.next_marked-i.ensures
+loop-i-init c = reached_start _ c.next_marked-i.ensures
 
 pub put_place-end-requires : goal.put_place-end-requires
 put_place-end-requires c = (omega arith, omega (arith, reached_room _ _ (omega arith) c.loop-i.invariant))

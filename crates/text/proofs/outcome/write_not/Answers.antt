@@ -1,12 +1,12 @@
--- `write_not`: two lines, one behind the other; the first is so short that the second fits (`number-line_end`).
+-- `write_not`: two lines, one behind the other; the first is so short that the second fits (`number_line_end`).
 use native.Mathlib.Omega.{arith}
 use Rattle.text.specs.Text.{text_of}
 use Rattle.text.proofs.BufferLaws.{wrote_then}
-use Rattle.text.proofs.LineLaws.{number-line_end, wrote_text}
+use Rattle.text.proofs.LineLaws.{number_line_end, wrote_text}
 use Rattle.text.proofs.outcome.write_not.Goals as goal
 
 pub list_line-requires : goal.list_line-requires
-list_line-requires c = omega (arith, number-line_end _ _ (omega arith) c.number_line-behind.ensures)
+list_line-requires c = omega (arith, number_line_end _ _ (omega arith) c.number_line-behind.ensures)
 
 pub returns : goal.returns
 unfolding text_of

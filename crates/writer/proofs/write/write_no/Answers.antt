@@ -1,9 +1,9 @@
 -- `write_no`: at most 9 rows a thing (`rows_few`): NO ROOM, the sheet as it was (`no_short`), or each row in 8 bytes
--- (`no_fits`, `words-length`).
+-- (`no_fits`, `words_length`).
 use mathlib.Core.Path.{refl}
 use Prim.Native.Nat.{◌+◌, ◌*◌}
 use native.Mathlib.Omega.{arith}
-use Rattle.pack.proofs.BytesLaws.{words-length}
+use Rattle.pack.proofs.BytesLaws.{words_length}
 use Rattle.writer.specs.Inner.{row_in, rows_bytes}
 use Rattle.writer.proofs.WriteLaws.{rows_few, no_fits, no_short}
 use Rattle.writer.proofs.write.write_no.Goals as goal
@@ -40,6 +40,6 @@ returns c =
     let w = c.write_rows.ensures in
     record {
       answer = no_fits _ c.if-sheet-need.false;
-      sheet = rw (words-length (row_in a.n a.concepts.now a.links.now) (a.n * (1 + a.m))) w.0;
+      sheet = rw (words_length (row_in a.n a.concepts.now a.links.now) (a.n * (1 + a.m))) w.0;
       words = λ h. w.1;
     }

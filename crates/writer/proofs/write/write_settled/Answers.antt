@@ -19,10 +19,10 @@ pub returns-then-steps-gt36800 : goal.returns-then-steps-gt36800
 returns-then-steps-gt36800 c = absurd (end_few _ _ _ _ _ _ c.requires.0.1 c.requires.1 _ _ _ _ _ c.settle-end.ensures c.if-steps-gt36800.true)
 
 pub overflow_cast-a : goal.overflow_cast-a
-overflow_cast-a c = omega (arith, (asked _ _ _ _ _ _ c.requires.0.1).goal_a, (asked _ _ _ _ _ _ c.requires.0.1).pack.n-most)
+overflow_cast-a c = omega (arith, (asked _ _ _ _ _ _ c.requires.0.1).goal_a, (asked _ _ _ _ _ _ c.requires.0.1).pack.n_most)
 
 pub overflow_cast-b : goal.overflow_cast-b
-overflow_cast-b c = omega (arith, (asked _ _ _ _ _ _ c.requires.0.1).goal_b, (asked _ _ _ _ _ _ c.requires.0.1).pack.n-most)
+overflow_cast-b c = omega (arith, (asked _ _ _ _ _ _ c.requires.0.1).goal_b, (asked _ _ _ _ _ _ c.requires.0.1).pack.n_most)
 
 pub write_yes-requires : goal.write_yes-requires
 unfolding held
@@ -42,7 +42,7 @@ returns-then-in_held c = c.write_yes.ensures
 pub write_no-requires : goal.write_no-requires
 write_no-requires c =
     let q = asked _ _ _ _ _ _ c.requires.0.1 in
-    (q.pack.n-some, q.pack.n-most, q.pack.m-most)
+    (q.pack.n_some, q.pack.n_most, q.pack.m_most)
 
 pub returns : goal.returns
 unfolding held

@@ -16,7 +16,7 @@ question c = asked _ _ _ _ _ _ c.requires.0.1
 pub loop-i-init : goal.loop-i-init
 loop-i-init c =
     let q = question (goal.at.loop-i-init c).Start in
-    (refl, omega arith, rw c.start_tables-start.ensures (good_none _ _ _ _ q.pack.n-most))
+    (refl, omega arith, rw c.start_tables-start.ensures (good_none _ _ _ _ q.pack.n_most))
 
 pub check_step-requires : goal.check_step-requires
 check_step-requires c =
@@ -29,7 +29,7 @@ loop-i-preserved c =
     let q = (question (goal.at.loop-i-preserved c).Start).pack in (
       loop.invariant.0,
       omega arith,
-      good_more _ _ _ _ loop.invariant.2 (omega arith) step.good q.n-most q.m-most (lines_valid _ _ _ q.all) c.if-check_step.true step.concepts step.links,
+      good_more _ _ _ _ loop.invariant.2 (omega arith) step.good q.n_most q.m_most (lines_valid _ _ _ q.all) c.if-check_step.true step.concepts step.links,
     )
 
 pub returns-else-check_step : goal.returns-else-check_step
