@@ -13,12 +13,12 @@ use Rattle.no.proofs.thing.chain_at.Goals as goal
 use Rattle.no.proofs.thing.chain_at.Goals.{After-next_bit-y-then-row_inside, After-row_inside, In-loop-y}
 
 -- at a set bit y of the first row: y is a thing, and what the test of its row says
-bit-set : (c : In-loop-y) → let a = c.args in has (row_at a.sheet.now (a.k + (a.r * a.k + a.x))) c.loop-y.y ≡ true
-bit-set c = pass_bit _ _ c.loop-y.rest c.loop-y.y c.loop-y-test.true c.loop-y.invariant
+bit_set : (c : In-loop-y) → let a = c.args in has (row_at a.sheet.now (a.k + (a.r * a.k + a.x))) c.loop-y.y ≡ true
+bit_set c = pass_bit _ _ c.loop-y.rest c.loop-y.y c.loop-y-test.true c.loop-y.invariant
 
 below : (c : In-loop-y) → c.loop-y.y < c.args.k
 below c =
-    link_below c.args.k c.args.sheet.now c.args.r c.args.x c.loop-y.y c.requires.1 c.requires.4 c.loop-y-test.true (bit-set c)
+    link_below c.args.k c.args.sheet.now c.args.r c.args.x c.loop-y.y c.requires.1 c.requires.4 c.loop-y-test.true (bit_set c)
 
 told : (c : After-row_inside) → let a = c.args in c.row_inside.result ≡ Okay a.sheet.now a.k a.x a.s a.t c.loop-y.y
 told c = rw (c.link_row-then.ensures, c.link_row-whole.ensures) at c.row_inside.ensures
@@ -59,7 +59,7 @@ loop-y-preserved c =
 pub returns-else-row_inside : goal.returns-else-row_inside
 returns-else-row_inside c =
     let p = goal.at.returns-else-row_inside c in
-    pass_fails _ _ _ _ (below p.In-loop-y) (bit-set p.In-loop-y) (sym (told p.After-row_inside) ∙ c.if-row_inside.false)
+    pass_fails _ _ _ _ (below p.In-loop-y) (bit_set p.In-loop-y) (sym (told p.After-row_inside) ∙ c.if-row_inside.false)
 
 pub returns : goal.returns
 returns c = pass_end _ _ _ c.loop-y.rest c.loop-y.y c.requires.0.few c.loop-y-test.false c.loop-y.invariant

@@ -4,6 +4,5 @@ use Rattle.no.proofs.thing.thing_refutes.Goals as goal
 
 pub returns : goal.returns
 returns c =
-    let row = c in
-    let pre = row.requires in
-    rw (low _ _ pre.1 c.test_bit.ensures, low _ _ pre.2 c.test_bit-2.ensures, row.row_at-row.ensures)
+    let pre = c.requires in
+    rw (low _ _ pre.1 c.test_bit.ensures, low _ _ pre.2 c.test_bit-2.ensures, c.row_at-row.ensures)

@@ -1,4 +1,4 @@
--- `write_word`: eight stores fill a part of eight bytes (`sets-eq`), and these are those of the word (`bytes-are`).
+-- `write_word`: eight stores fill a part of eight bytes (`sets-eq`), and these are those of the word (`bytes_are`).
 use mathlib.Core.Path.{◌≡◌, ap, ◌∙◌}
 use mathlib.Core.List.{List, [], ◌∷◌, ◌++◌}
 use Prim.Native.Nat.{ℕ, ◌/◌, ◌%◌}
@@ -15,9 +15,9 @@ bytes : ℕ → List ℕ
 bytes w =
     w % 256 ∷ w / 256 % 256 ∷ w / 65536 % 256 ∷ w / 16777216 % 256 ∷ w / 4294967296 % 256 ∷ w / 1099511627776 % 256 ∷ w / 281474976710656 % 256 ∷ w / 72057594037927936 % 256 ∷ []
 
-bytes-are : (w : ℕ) → bytes w ≡ word_bytes w
+bytes_are : (w : ℕ) → bytes w ≡ word_bytes w
 unfolding bytes word_bytes listed
-bytes-are w = rw div-one
+bytes_are w = rw div-one
 
 pub bounds-part-4 : goal.bounds-part-4
 bounds-part-4 c = simp length-set (omega arith)
@@ -35,4 +35,4 @@ pub returns : goal.returns
 unfolding bytes
 returns c =
     let a = c.args in
-    sets-eq (bytes a.w) a.part.now 0 (omega arith) ∙ ap (λ (l : List ℕ). bytes a.w ++ l) (drop_of_length-le a.part.now {i = 8} (omega arith)) ∙ bytes-are a.w
+    sets-eq (bytes a.w) a.part.now 0 (omega arith) ∙ ap (λ (l : List ℕ). bytes a.w ++ l) (drop_of_length-le a.part.now {i = 8} (omega arith)) ∙ bytes_are a.w

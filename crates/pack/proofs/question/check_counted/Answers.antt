@@ -4,13 +4,11 @@ use Rattle.pack.proofs.question.check_counted.Goals as goal
 
 pub returns-then-goal_fits : goal.returns-then-goal_fits
 returns-then-goal_fits c =
-    let fit = c in
-    rw (sym fit.marks_fit.ensures ∙ c.if-marks_fit.true, sym c.goal_fits.ensures ∙ c.if-goal_fits.true)
+    rw (sym c.marks_fit.ensures ∙ c.if-marks_fit.true, sym c.goal_fits.ensures ∙ c.if-goal_fits.true)
 
 pub returns-then-marks_fit : goal.returns-then-marks_fit
 returns-then-marks_fit c =
-    let fit = c in
-    rw (sym fit.marks_fit.ensures ∙ c.if-marks_fit.true, sym c.goal_fits.ensures ∙ c.if-goal_fits.false)
+    rw (sym c.marks_fit.ensures ∙ c.if-marks_fit.true, sym c.goal_fits.ensures ∙ c.if-goal_fits.false)
 
 pub returns : goal.returns
 returns c = rw (sym c.marks_fit.ensures ∙ c.if-marks_fit.false)

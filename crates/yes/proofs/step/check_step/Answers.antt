@@ -17,8 +17,8 @@ use Rattle.yes.proofs.step.check_step.Goals as goal
 use Rattle.yes.proofs.step.check_step.Goals.{After-rule_of-rule, Then-place_counts, Then-zeros_zero}
 
 -- the last three bytes are zero, and the place is below the record count
-zeros-good : (c : Then-zeros_zero) → zeros_in c.args.part.now ≡ true
-zeros-good c = sym c.zeros_zero.ensures ∙ c.if-zeros_zero.true
+zeros_good : (c : Then-zeros_zero) → zeros_in c.args.part.now ≡ true
+zeros_good c = sym c.zeros_zero.ensures ∙ c.if-zeros_zero.true
 
 below : (c : Then-place_counts) → c.read_step-s.result.place < length c.args.pack.now / 8
 below c = ltb-true _ _ (both_true _ _ (sym c.place_counts.ensures ∙ c.if-place_counts.true)).0
@@ -32,8 +32,8 @@ judged : (c : After-rule_of-rule)
 judged c =
     rw (c.rule_of-rule.ensures, good_parts _ _ c.read_step-s.ensures c.line_at.ensures, (sym c.zeros_zero.ensures ∙ c.if-zeros_zero.true), sym c.place_counts.ensures ∙ c.if-place_counts.true)
 
-conclusion-is : (c : After-rule_of-rule) → let a = c.args in c.rule_of-rule.result.gives ≡ conclusion_of (lines_of a.pack.now) (step_in a.part.now)
-conclusion-is c =
+conclusion_is : (c : After-rule_of-rule) → let a = c.args in c.rule_of-rule.result.gives ≡ conclusion_of (lines_of a.pack.now) (step_in a.part.now)
+conclusion_is c =
     ap (λ (r : Rule). r.gives) c.rule_of-rule.ensures ∙ concludes _ _ c.read_step-s.ensures c.line_at.ensures ((ltb-true _ _ (both_true _ _ (sym c.place_counts.ensures ∙ c.if-place_counts.true)).0))
 
 pub line_at-requires : goal.line_at-requires
@@ -42,8 +42,8 @@ line_at-requires c = below (goal.at.line_at-requires c).Then-place_counts
 pub returns-then-premises_held : goal.returns-then-premises_held
 returns-then-premises_held c = record {
   good = rw (judged (goal.at.returns-then-premises_held c).After-rule_of-rule, sym c.numbers_fit.ensures ∙ c.if-numbers_fit.true, sym c.premises_held.ensures ∙ c.if-premises_held.true);
-  concepts = (rw (conclusion-is (goal.at.returns-then-premises_held c).After-rule_of-rule) at c.add_fact.ensures).0;
-  links = (rw (conclusion-is (goal.at.returns-then-premises_held c).After-rule_of-rule) at c.add_fact.ensures).1;
+  concepts = (rw (conclusion_is (goal.at.returns-then-premises_held c).After-rule_of-rule) at c.add_fact.ensures).0;
+  links = (rw (conclusion_is (goal.at.returns-then-premises_held c).After-rule_of-rule) at c.add_fact.ensures).1;
 }
 
 pub returns-else-premises_held : goal.returns-else-premises_held
@@ -64,7 +64,7 @@ pub returns-else-place_counts : goal.returns-else-place_counts
 returns-else-place_counts c =
     let read = c.read_step-s.ensures in
     record {
-      good = rw (good_parts _ _ read refl, zeros-good (goal.at.returns-else-place_counts c).Then-zeros_zero, sym c.place_counts.ensures ∙ c.if-place_counts.false);
+      good = rw (good_parts _ _ read refl, zeros_good (goal.at.returns-else-place_counts c).Then-zeros_zero, sym c.place_counts.ensures ∙ c.if-place_counts.false);
       concepts = refl;
       links = refl;
     }
