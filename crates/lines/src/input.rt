@@ -45,7 +45,8 @@ fn read_question(q: &[u8], at: usize) -> Input
 pub fn read_input(s: &[u8]) -> Input
     ensures { result ≡ input_of s.now }
 {
-    if 8200 < s.len() {
+    let too_long = 8200 < s.len();
+    if too_long {
         return Input::Refused(2);
     }
     if s.len() < 8 {

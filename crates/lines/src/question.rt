@@ -13,7 +13,8 @@ use text::outcome::{write_follows, write_not, write_refused, write_refused_at};
 fn refusal_text(out: &mut [u8; 8192], number: u32, place: u32) -> usize
     ensures { WroteText (refusal_outcome number place) out.old out.new result }
 {
-    if number == 3 {
+    let by_place = number == 3;
+    if by_place {
         return write_refused_at(out, place);
     }
     write_refused(out, number)
