@@ -45,27 +45,16 @@ module _ (P : ℕ → Bool) where
   places_grow i zero = rw add-zero (omega arith)
   places_grow i (suc c) = omega (arith, places_grow i c, (places_step (i + c)).0, ap (λ (k : ℕ). length (places P k)) (add-suc i c ∙ sym (add-one (i + c))))
 
-  -- room for all places is room for the next one
-  places_room : {i c : ℕ} → i < c → P i ≡ true → length (places P i) + (1 + length (decimal i)) ≤ length (places P c)
-  places_room {i} {c} h e =
-      let all : i + 1 + (c - (i + 1)) ≡ c = omega arith in
-      omega (
-        arith,
-        ap length (places_on i e) ∙ length-append (places P i) (32 ∷ decimal i),
-        places_grow (i + 1) (c - (i + 1)),
-        ap (λ (k : ℕ). length (places P k)) all,
-      )
-
   -- AT MOST 4,010 BYTES: 10 places of two bytes with the space, 90 of three, 900 of four and 24 of five
-  places_more : (d i c : ℕ) → ((j : ℕ) → j < i + c → j < 10 ^ suc d) → length (places P (i + c)) ≤ length (places P i) + c * (d + 2)
-  places_more d i zero h = omega (arith, ap (λ (k : ℕ). length (places P k)) (add-zero i), zero-mul (d + 2))
-  places_more d i (suc c) h =
+  places_more : (d i c : ℕ) → i + c ≤ 1024 → ((j : ℕ) → j < i + c → j < 10 ^ suc d) → length (places P (i + c)) ≤ length (places P i) + c * (d + 2)
+  places_more d i zero l h = omega (arith, ap (λ (k : ℕ). length (places P k)) (add-zero i), zero-mul (d + 2))
+  places_more d i (suc c) l h =
       omega (
         arith,
         ap (λ (k : ℕ). length (places P k)) (add-suc i c ∙ sym (add-one (i + c))),
         (places_step (i + c)).1,
-        decimal_most d (i + c) (h (i + c) (omega arith)),
-        places_more d i c (λ j l. h j (omega arith)),
+        decimal_most d (i + c) (omega arith) (h (i + c) (omega arith)),
+        places_more d i c (omega arith) (λ j g. h j (omega arith)),
         suc-mul c (d + 2),
       )
 
@@ -78,10 +67,10 @@ module _ (P : ℕ → Bool) where
       omega (
         arith,
         places_none,
-        places_more 0 0 10 (λ j l. omega arith),
-        places_more 1 10 90 (λ j l. omega arith),
-        places_more 2 100 900 (λ j l. omega arith),
-        places_more 3 1000 24 (λ j l. omega arith),
+        places_more 0 0 10 (omega arith) (λ j l. omega arith),
+        places_more 1 10 90 (omega arith) (λ j l. omega arith),
+        places_more 2 100 900 (omega arith) (λ j l. omega arith),
+        places_more 3 1000 24 (omega arith) (λ j l. omega arith),
       )
 
 -- sets with the same places below c have the same list
@@ -90,32 +79,29 @@ unfolding places
 places_same P Q zero h = refl
 places_same P Q (suc c) h = rw (places_same P Q c (λ j l. h j (omega arith)), h c (omega arith))
 
--- PLACES WRITTEN ONE AFTER THE OTHER: those below i, where i is the next one, or 1,024
-pub record Reached (P : ℕ → Bool) (i : ℕ) (before : List ℕ) (at : ℕ) (after : List ℕ) (end : ℕ) : Type 0 where
-  pub within : i ≤ 1024
-  pub there : i < 1024 → P i ≡ true
-  pub written : Wrote (places P i) before at after end
-
-module _ (P : ℕ → Bool) {before : List ℕ} {at : ℕ} where
-  -- from the places below i to those below the next one
-  reach : (i : ℕ) {r : ℕ} {after : List ℕ} {end : ℕ} → i ≤ 1024 → r ≡ lowest P i (1024 - i) → Wrote (places P i) before at after end → Reached P r before at after end
-  reach i {r} h e f =
+-- PLACES ONE AFTER THE OTHER: from those below i to those below the next one, and to all where there is no next one
+module _ (P : ℕ → Bool) (i : ℕ) {r : ℕ} (e : r ≡ lowest P i (1024 - i)) where
+  places_to : i ≤ 1024 → (i ≤ r) × (r ≤ 1024) × (places P r ≡ places P i)
+  places_to h =
       let l : Lowest P i (1024 - i) r = rw e (lowest_is P i (1024 - i)) in
       let a = l.from in
       let b = l.within in
       let all : i + (r - i) ≡ r = omega arith in
-      let same : places P r ≡ places P i = sym (ap (places P) all) ∙ places_skip P i (r - i) (λ j g k. l.none j g (omega arith)) in
-      record { within = omega arith; there = λ g. l.found (omega arith); written = rw same f }
+      (omega arith, omega arith, sym (ap (places P) all) ∙ places_skip P i (r - i) (λ j g k. l.none j g (omega arith)))
 
-  pub reached_start : {r : ℕ} → r ≡ lowest P 0 1024 → Reached P r before at before at
-  unfolding places
-  reached_start e = reach 0 (omega arith) e wrote_none
+  pub places_next : i ≤ 1024 → r < 1024 → (i ≤ r) × (places P (r + 1) ≡ places P i ++ (32 ∷ decimal r))
+  places_next h g =
+      let l : Lowest P i (1024 - i) r = rw e (lowest_is P i (1024 - i)) in
+      let t = places_to h in
+      let a = t.0 in
+      (t.0, places_on P r (l.found (omega arith)) ∙ ap (λ (bytes : List ℕ). bytes ++ (32 ∷ decimal r)) t.2)
 
-  pub reached_on : (i : ℕ) {r middle end : ℕ} {between after : List ℕ} → i < 1024 → Reached P i before at between middle → Wrote (32 ∷ decimal i) between middle after end → r ≡ lowest P (i + 1) (1024 - (i + 1)) → Reached P r before at after end
-  reached_on i h f g e = reach (i + 1) (omega arith) e (rw (places_on P i (f.there h)) (wrote_then f.written g))
+  pub places_all : i ≤ 1024 → 1024 ≤ r → places P 1024 ≡ places P i
+  places_all h g = let t = places_to h in let all : r ≡ 1024 = omega (arith, t.1) in rw all at t.2
 
-  pub reached_room : (i : ℕ) {middle : ℕ} {between : List ℕ} → i < 1024 → Reached P i before at between middle → middle + (1 + length (decimal i)) ≤ at + length (places P 1024)
-  reached_room i h f = omega (arith, f.written.behind, places_room P h (f.there h))
-
-  pub reached_end : (i : ℕ) {end : ℕ} {after : List ℕ} → 1024 ≤ i → Reached P i before at after end → Wrote (places P 1024) before at after end
-  reached_end i h f = let e : i ≡ 1024 = omega (arith, f.within) in rw e at f.written
+-- room for all places is room for the next one
+pub next_room : (P : ℕ → Bool) (i : ℕ) {r : ℕ} → r ≡ lowest P i (1024 - i) → i ≤ 1024 → r < 1024 → length (places P i) + (1 + length (decimal r)) ≤ length (places P 1024)
+next_room P i {r} e h g = omega (arith, simp length-append at (ap length (places_next P i e h g).1), places_grow P (r + 1) (1024 - (r + 1)), ap (λ (k : ℕ). length (places P k)) (until g))
+  where
+    until : r < 1024 → r + 1 + (1024 - (r + 1)) ≡ 1024
+    until g = omega arith
