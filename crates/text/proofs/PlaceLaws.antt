@@ -8,11 +8,11 @@ use native.Mathlib.Nat.{add-zero, add-suc, suc-mul, zero-mul}
 use native.Mathlib.Numerals.{add-one}
 use native.Mathlib.Omega.{arith}
 use lib.ListN.{length, length-append}
-use Rattle.bits.specs.Sets.{lowest}
-use Rattle.bits.proofs.SetLaws.{Lowest, lowest_is}
-use Rattle.text.specs.Buffer.{Wrote}
+use Rattle.bits.proofs.FoundLaws.{Found, Missing}
+use Rattle.text.specs.declared.line.Text.{Text}
+use Rattle.text.specs.Inner.{Added}
 use Rattle.text.specs.Text.{decimal, places}
-use Rattle.text.proofs.BufferLaws.{wrote_none, wrote_then}
+use Rattle.text.proofs.BufferLaws.{wrote_none, added_then}
 use Rattle.text.proofs.DigitLaws.{decimal_most}
 
 module _ (P : ℕ → Bool) where
@@ -79,29 +79,49 @@ unfolding places
 places_same P Q zero h = refl
 places_same P Q (suc c) h = rw (places_same P Q c (λ j l. h j (omega arith)), h c (omega arith))
 
--- PLACES ONE AFTER THE OTHER: from those below i to those below the next one, and to all where there is no next one
-module _ (P : ℕ → Bool) (i : ℕ) {r : ℕ} (e : r ≡ lowest P i (1024 - i)) where
-  places_to : i ≤ 1024 → (i ≤ r) × (r ≤ 1024) × (places P r ≡ places P i)
-  places_to h =
-      let l : Lowest P i (1024 - i) r = rw e (lowest_is P i (1024 - i)) in
-      let a = l.from in
-      let b = l.within in
+-- PLACES ONE AFTER THE OTHER: those below the next one are followed by it, and are all where there is no next one
+module _ {P : ℕ → Bool} {i : ℕ} where
+  pub places_next : {r : ℕ} → Found P i 1024 r → places P (r + 1) ≡ places P i ++ (32 ∷ decimal r)
+  places_next {r} f =
+      let from = f.from in
       let all : i + (r - i) ≡ r = omega arith in
-      (omega arith, omega arith, sym (ap (places P) all) ∙ places_skip P i (r - i) (λ j g k. l.none j g (omega arith)))
+      let skipped : places P r ≡ places P i = sym (ap (places P) all) ∙ places_skip P i (r - i) (λ j g l. f.before j g (omega arith)) in
+      places_on P r f.here ∙ ap (λ (bytes : List ℕ). bytes ++ (32 ∷ decimal r)) skipped
 
-  pub places_next : i ≤ 1024 → r < 1024 → (i ≤ r) × (places P (r + 1) ≡ places P i ++ (32 ∷ decimal r))
-  places_next h g =
-      let l : Lowest P i (1024 - i) r = rw e (lowest_is P i (1024 - i)) in
-      let t = places_to h in
-      let a = t.0 in
-      (t.0, places_on P r (l.found (omega arith)) ∙ ap (λ (bytes : List ℕ). bytes ++ (32 ∷ decimal r)) t.2)
+  pub places_all : i ≤ 1024 → Missing P i 1024 → places P 1024 ≡ places P i
+  places_all h f =
+      let all : i + (1024 - i) ≡ 1024 = omega arith in
+      sym (ap (places P) all) ∙ places_skip P i (1024 - i) (λ j g l. f.none j g (omega arith))
 
-  pub places_all : i ≤ 1024 → 1024 ≤ r → places P 1024 ≡ places P i
-  places_all h g = let t = places_to h in let all : r ≡ 1024 = omega (arith, t.1) in rw all at t.2
+  -- room for all places is room for the next one
+  pub next_room : {r : ℕ} → Found P i 1024 r → length (places P i) + (1 + length (decimal r)) ≤ length (places P 1024)
+  next_room {r} f =
+      let there = f.there in
+      let all : r + 1 + (1024 - (r + 1)) ≡ 1024 = omega arith in
+      omega (
+        arith,
+        ap length (places_next f) ∙ length-append (places P i) (32 ∷ decimal r),
+        places_grow P (r + 1) (1024 - (r + 1)),
+        ap (λ (k : ℕ). length (places P k)) all,
+      )
 
--- room for all places is room for the next one
-pub next_room : (P : ℕ → Bool) (i : ℕ) {r : ℕ} → r ≡ lowest P i (1024 - i) → i ≤ 1024 → r < 1024 → length (places P i) + (1 + length (decimal r)) ≤ length (places P 1024)
-next_room P i {r} e h g = omega (arith, simp length-append at (ap length (places_next P i e h g).1), places_grow P (r + 1) (1024 - (r + 1)), ap (λ (k : ℕ). length (places P k)) (until g))
-  where
-    until : r < 1024 → r + 1 + (1024 - (r + 1)) ≡ 1024
-    until g = omega arith
+-- A TEXT WITH THE PLACES BELOW i behind what it had
+pub record Listed (P : ℕ → Bool) (i : ℕ) (before after : Text) : Type 0 where
+  pub within : i ≤ 1024
+  pub added : Added (places P i) before after
+
+module _ {P : ℕ → Bool} {before : Text} where
+  pub listed_none : Listed P 0 before before
+  unfolding places
+  listed_none = record { within = omega arith; added = record { written = wrote_none; same_buffer = refl } }
+
+  pub listed_next : {i r : ℕ} {between after : Text} → Found P i 1024 r → Listed P i before between → Added (32 ∷ decimal r) between after → Listed P (r + 1) before after
+  listed_next f l g =
+      let there = f.there in
+      record { within = omega arith; added = rw (places_next f) (added_then l.added g) }
+
+  pub listed_all : {i : ℕ} {after : Text} → Missing P i 1024 → Listed P i before after → Added (places P 1024) before after
+  listed_all f l = rw (places_all l.within f) l.added
+
+  pub listed_room : {i r : ℕ} {after : Text} → Found P i 1024 r → Listed P i before after → after.end + (1 + length (decimal r)) ≤ before.end + length (places P 1024)
+  listed_room f l = omega (arith, l.added.written.behind, next_room f)

@@ -49,11 +49,11 @@ impl<'b> Text<'b> {
         requires { self.old.end + length (places (marked marks.now) 1024) ≤ 8192 }
         ensures { Added (places (marked marks.now) 1024) self.old self.new }
     {
-        let mut i = next_marked(marks, 0);
-        while i < 1024 {
+        let mut from = 0;
+        while let Some(i) = next_marked(marks, from) {
             self.push_word(b" ");
             self.push_number(i as u32);
-            i = next_marked(marks, i + 1);
+            from = i + 1;
         }
     }
 
