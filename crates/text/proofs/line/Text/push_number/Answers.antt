@@ -1,7 +1,6 @@
 -- `push_number`: what the library prints of a number are its digits in decimal (`decimal_is`).
-use mathlib.Core.Path.{ap, ◌∙◌}
+use mathlib.Core.Path.{◌∙◌}
 use native.Mathlib.Omega.{arith}
-use lib.ListN.{length}
 use Rattle.text.proofs.DigitLaws.{decimal_is}
 use Rattle.text.proofs.line.Text.push_number.Goals as goal
 
