@@ -5,7 +5,7 @@ ghost use Rattle.text.specs.Inner.{Added};
 ghost use Rattle.text.specs.Text.{decimal, places, number_line, list_line};
 
 use itoa::Buffer;
-use marks::look::{count_marked, next_marked};
+use marks::look::{count_marked, places};
 
 // A text that grows in a lent buffer: it ends at `end`.
 #[derive(Drop)]
@@ -49,11 +49,9 @@ impl<'b> Text<'b> {
         requires { self.old.end + length (places (marked marks.now) 1024) ≤ 8192 }
         ensures { Added (places (marked marks.now) 1024) self.old self.new }
     {
-        let mut from = 0;
-        while let Some(i) = next_marked(marks, from) {
+        for i in places(marks) {
             self.push_word(b" ");
             self.push_number(i as u32);
-            from = i + 1;
         }
     }
 

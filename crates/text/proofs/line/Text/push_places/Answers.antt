@@ -1,24 +1,25 @@
--- `push_places`: the places below `from` are written (`Listed`); it goes from marked place to marked place.
+-- `push_places`: the places that the walk has passed are written (`Listed`).
 use native.Mathlib.Omega.{arith}
+use mathlib.Core.Path.{◌∙◌}
 use Rattle.bits.proofs.FoundLaws.{found, missing}
 use Rattle.text.proofs.BufferLaws.{added_then}
 use Rattle.text.proofs.PlaceLaws.{listed_none, listed_next, listed_room, listed_all}
 use Rattle.text.proofs.line.Text.push_places.Goals as goal
 
 pub loop-i-init : goal.loop-i-init
-loop-i-init c = listed_none
+loop-i-init c = rw (c.into_iter-i-iterator.ensures.into_iter_gives, c.places-i-items.ensures.from) (c.places-i-items.ensures.marks, listed_none)
 
 pub push_word-requires : goal.push_word-requires
-push_word-requires c = omega (arith, listed_room (found c.in-Some.ensures) c.loop-i.invariant)
+push_word-requires c = let l = c.loop-i.invariant in omega (arith, listed_room (found (rw l.0 at c.in-Some.ensures.steps.0)) l.1)
 
 pub push_number-requires : goal.push_number-requires
-push_number-requires c = omega (arith, listed_room (found c.in-Some.ensures) c.loop-i.invariant)
-
-pub loop-i-smaller : goal.loop-i-smaller
-loop-i-smaller c = let f = found c.in-Some.ensures in omega (arith, f.from, f.there)
+push_number-requires c = let l = c.loop-i.invariant in omega (arith, listed_room (found (rw l.0 at c.in-Some.ensures.steps.0)) l.1)
 
 pub loop-i-preserved : goal.loop-i-preserved
-loop-i-preserved c = listed_next (found c.in-Some.ensures) c.loop-i.invariant (added_then c.push_word.ensures c.push_number.ensures)
+loop-i-preserved c =
+    let l = c.loop-i.invariant in
+    let s = c.in-Some.ensures.steps in
+    (s.1 ∙ l.0, rw s.2 (listed_next (found (rw l.0 at s.0)) l.1 (added_then c.push_word.ensures c.push_number.ensures)))
 
 pub returns : goal.returns
-returns c = listed_all (missing c.in_default.ensures) c.loop-i.invariant
+returns c = let l = c.loop-i.invariant in listed_all (missing (rw l.0 at c.in-None.ensures.steps.0)) l.1
