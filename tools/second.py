@@ -111,8 +111,10 @@ def fields(kind, page, every):
 
 def place(function, every, name, steps, apart):
     """What a parameter's name and the fields taken of it stand for: a variable, and the fields that are taken of that. A
-    field is a variable of its own where it is reached through a reference, or where structs are taken apart."""
-    kind, page, path, when, taken = function.parameters[name], function.page, [name], '', 0
+    field is a variable of its own where it is reached through a reference, or where structs are taken apart; so is one of the
+    result."""
+    kind, when = (function.result or '', LAST) if name == 'result' else (function.parameters[name], '')
+    page, path, taken = function.page, [name], 0
     for step in steps:
         points, inside = reference(kind), fields(kind, page, every)
         if step in MOMENTS and not when and step in ('entry', 'exit') and not points:
@@ -120,7 +122,7 @@ def place(function, every, name, steps, apart):
         elif step in MOMENTS and points and (step == 'now' and (when or not points[0]) or step in ('old', 'new') and points[0] and not when and not path[1:]):
             when, kind = when or MOMENTS[step], points[1]
             path.append('*')
-        elif inside and step in inside and (when or apart):
+        elif inside and step in inside and (apart or when and name != 'result'):
             kind, page = inside[step]
             path.append(step)
         else:
@@ -143,7 +145,7 @@ def promise(function, every, apart=True):
             name, steps = match[1], match[2].split('.')[1:]
             if name in function.generics and steps:
                 return '.'.join([f'{name}:{steps[0]}@', *steps[1:]])
-            if name not in function.parameters:
+            if name not in function.parameters and name != 'result':
                 return match[0]
             word, rest = place(function, every, name, steps, apart)
             return '.'.join([word, *rest])
@@ -294,7 +296,7 @@ def left_behind(path, kind, page, every, given):
 def lacks(function, every):
     """What a call gives or changes and its promise does not speak of."""
     given = {word for factor in promise(function, every) for word in variables(factor)}
-    found = ['its result'] if function.result not in (None, '()') and RESULT not in given else []
+    found = ['its result'] if function.result not in (None, '()') and left_out(['result'], function.result, function.page, every, given) else []
     for name, kind in function.parameters.items():
         found += [f'`{readable(":".join(path))}` afterwards' for path in left_behind([name], kind, function.page, every, given)]
     return found
