@@ -1,8 +1,9 @@
 -- Laws of marks: place by place in the words, and word by word in the count and the search.
 use mathlib.Core.Path.{◌≡◌, refl, ap, ap₂, ◌∙◌}
 use mathlib.Core.Bool.{true, false, not, ◌&&◌}
-use mathlib.Core.List.{List}
-use Prim.Native.Nat.{ℕ, ◌+◌, ◌-◌, ◌*◌, ◌/◌, ◌%◌, ◌≤◌, ◌<◌}
+use mathlib.Core.List.{List, map}
+use Rattle.std.specs.List.{fold, range_with_len}
+use Prim.Native.Nat.{ℕ, zero, suc, ◌+◌, ◌-◌, ◌*◌, ◌/◌, ◌%◌, ◌≤◌, ◌<◌}
 use native.Mathlib.Decide.{dec_lt}
 use native.Mathlib.Omega.{arith}
 use lib.Dec.{eqb, leb}
@@ -37,6 +38,11 @@ module _ (ws : List ℕ) where
         count_add (marked ws) (64 * w) 64,
         count_same (λ j. marked ws (64 * w + j)) (has (get_or ws w 0)) 64 (λ j l. at_word (64 * w + j) w j (omega arith) (omega arith)),
       )
+
+  -- the words' counts, added up from word a on
+  pub count_words : (a n k : ℕ) → k ≡ count_to (marked ws) (64 * a) → fold (λ s c. s + c) k (map (λ j. count_to (has (get_or ws j 0)) 64) (range_with_len a n)) ≡ count_to (marked ws) (64 * (a + n))
+  count_words a zero k e = e ∙ ap (count_to (marked ws)) (omega arith)
+  count_words a (suc n) k e = count_words (a + 1) n (k + count_to (has (get_or ws a 0)) 64) (omega (arith, e, count_word a)) ∙ ap (count_to (marked ws)) (omega arith)
 
   -- THE SEARCH WORD BY WORD: nothing from p on is marked in the words before k; in word k, from p on, a place is or none
   module _ {p : ℕ} (k : ℕ) (m : Missing (marked ws) p (k * 64)) where
