@@ -1,18 +1,17 @@
 -- Laws of marks changed: the places below a number as a word, a range cut out.
 use mathlib.Core.Path.{◌≡◌, sym, ap, ◌∙◌, fun_ext}
-use mathlib.Core.Bool.{Bool, true, false, not, ◌&&◌, ◌||◌, and-false, and-true, and_comm}
+use mathlib.Core.Bool.{Bool, true, false, not, ◌&&◌, and-false, and-true, and_comm}
 use mathlib.Core.List.{List}
 use Prim.Native.Nat.{ℕ, ◌+◌, ◌-◌, ◌*◌, ◌%◌, ◌^◌, ◌≤◌, ◌<◌}
 use native.Mathlib.Decide.{dec_lt}
 use native.Mathlib.Omega.{arith}
-use lib.Bits.{bit_and, bit_or}
 use lib.Dec.{leb, ltb}
 use lib.ListN.{length, get_or}
 use lib.Pow.{pow_pos}
 use borrow.Author.Tests.{lt-ltb, le-ltb, le-leb, lt-leb}
 use Rattle.bits.specs.Bit.{has}
 use Rattle.bits.proofs.Truth.{leb_not, both_true, never, is_no}
-use Rattle.bits.proofs.BitLaws.{has_zero, has_high, has_and, has_or, has_not_word, one_shl}
+use Rattle.bits.proofs.BitLaws.{has_zero, has_high, has_not_word, one_shl}
 use Rattle.marks.specs.Marks.{marked, marks_of, cut_out}
 use Rattle.marks.proofs.MarkLaws.{at_word, unmarked_past}
 use Rattle.marks.proofs.WordLaws.{marked_of, marked_past}

@@ -1,7 +1,7 @@
 -- `count_marked`: the words' counts, added up (`count_words`); each is at most 64.
-use Rattle.std.proofs.Common.{◌≡◌, ℕ, ◌<◌, ◌^◌, List, map, sum, get_or, refl, ◌∙◌, rules, tests, arith}
+use Rattle.std.proofs.Common.{◌≡◌, ℕ, List, map, sum, get_or, refl, ◌∙◌, rules, tests, arith}
 use Rattle.std.specs.List.{range_with_len}
-use Rattle.std.proofs.lemmas.Iterator.{YieldsList, YieldsList-from_range, YieldsList-from_map}
+use Rattle.std.proofs.lemmas.Iterator.{YieldsList-from_range, YieldsList-from_map}
 use Rattle.std.proofs.lemmas.Iterator.Consumers.{YieldsList-at, sum_from_yields_List, fits_from_yields_list}
 use Rattle.bits.specs.Bit.{has}
 use Rattle.bits.specs.Sets.{count_to}
