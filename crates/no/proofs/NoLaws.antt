@@ -8,6 +8,7 @@ use native.Mathlib.Omega.{arith}
 use lib.Dec.{eqb, ltb, leb}
 use lib.ListN.{length}
 use borrow.Author.Tests.{le-ltb, ltb-false, leb-true, le-leb, not-true, not-false}
+use Rattle.std.specs.Prelude.{Result, Ok, Err}
 use Rattle.bits.specs.Bit.{has}
 use Rattle.bits.proofs.Truth.{both_true, true_both, never, is_no, clash, cond_first, cond_second}
 use Rattle.bits.proofs.SetLaws.{lowest_is, lowest_none, none_lowest, first_none, some_true, true_some}
@@ -21,18 +22,10 @@ use Rattle.pack.specs.Computed.{obeys, check_question}
 use Rattle.pack.specs.Record.{lines_of, ValidLine, Valid}
 use Rattle.pack.specs.Question.{counted}
 use Rattle.pack.proofs.WorldLaws.{obeys_line, line_obeys}
-use Rattle.no.specs.declared.check.NoAnswer.{NoAnswer}
-use Rattle.no.specs.declared.check.NoAnswer.TheVariants as no
+use Rattle.no.specs.declared.check.NoError.{NoError}
+use Rattle.no.specs.declared.check.NoError.TheVariants as no
 use Rattle.no.specs.NoSheet.{row_at, rows_of, forbidden, world_of}
 use Rattle.no.specs.Computed.{things_by, no_length_by, lowest_forbidden, lowest_broken, refutes, check_world, check_rows, no_after, check_no}
-use Rattle.no.specs.Inner.{ThingsFit, RoleFits, LineFits, LinesFit}
-
--- the rows: k, and k for each role
-rows_are : (m k : ℕ) → rows_of m k ≡ k + m * k
-rows_are m k = mul-add k 1 m ∙ rw (mul-one k, mul_comm k m)
-
-pub rows_few : (m k : ℕ) → m ≤ 8 → k ≤ 64 → rows_of m k ≤ 576
-rows_few m k h l = omega (arith, rows_are m k, mul-le-mul_left m l, mul_comm m k)
 
 -- a length that is a multiple of 8 · (1 + m) is that of its things' rows
 pub whole_rows : (m : ℕ) (sheet : List ℕ) → length sheet % (8 * (1 + m)) ≡ 0 → length sheet ≡ rows_of m (things_by m sheet) * 8
@@ -41,53 +34,6 @@ whole_rows m sheet e =
     let d : k * (8 * (1 + m)) + length sheet % (8 * (1 + m)) ≡ length sheet = div-add-mod' (length sheet) (8 * (1 + m)) in
     let f : k * (8 * (1 + m)) ≡ k * (1 + m) * 8 = ap (λ (v : ℕ). k * v) (mul_comm 8 (1 + m)) ∙ sym (mul_assoc k (1 + m) 8) in
     omega arith
-
-module _ (n m k : ℕ) (sheet : List ℕ) (few : k ≤ 64) (whole : length sheet ≡ rows_of m k * 8) where
-  -- a role below m has its rows in the sheet
-  role_rows : (r : ℕ) → r < m → k + (r * k + k) ≤ rows_of m k
-  role_rows r h =
-      let l : suc r * k ≤ m * k = mul-le-mul_right k h in
-      omega (arith, rows_are m k, suc-mul r k)
-
-  pub things_fit : ThingsFit k sheet
-  things_fit = record { few = few; rows = omega (arith, rows_are m k) }
-
-  -- where no row has a forbidden bit, no link leaves the things
-  role_fits : lowest_forbidden n m k sheet ≡ rows_of m k → (r : ℕ) → r < m → RoleFits k sheet r
-  unfolding lowest_forbidden forbidden
-  role_fits e r h = record {
-    rows = omega (arith, role_rows r h);
-    inside = λ x y lx ly b. is_no (none x y lx ly b);
-  }
-    where
-      none : (x y : ℕ) → x < k → k ≤ y → y < 64 → has (row_at sheet (k + (r * k + x))) y ≡ true → ⊥
-      none x y lx ly b g =
-          let i = k + (r * k + x) in
-          let far : i < rows_of m k = omega (arith, role_rows r h) in
-          let clean = lowest_none (forbidden n k sheet) 0 (rows_of m k) (e ∙ sym (zero-add (rows_of m k))) i (omega arith) (omega arith) in
-          never
-          (rw (le-ltb i k (omega arith)) (true_some (λ j. leb k j && has (row_at sheet i) j) 64 y b (true_both (leb k y) (has (row_at sheet i) y) (le-leb k y ly) g)))
-          clean
-
-  line_fits : n ≤ 64 → lowest_forbidden n m k sheet ≡ rows_of m k → (l : Line) → ValidLine n m l → LineFits k sheet l
-  line_fits h e (Under a b) v = (omega arith, omega arith)
-  line_fits h e (BothUnder a₁ a₂ b) v = (omega arith, omega arith, omega arith)
-  line_fits h e (UnderSome a r b) v = (omega arith, role_fits e r v.1, omega arith)
-  line_fits h e (SomeUnder r a b) v = (role_fits e r v.0, omega arith, omega arith)
-  line_fits h e (RoleUnder r s) v = (role_fits e r v.0, role_fits e s v.1)
-  line_fits h e (ChainUnder r s t) v = (role_fits e r v.0, role_fits e s v.1, role_fits e t v.2)
-  line_fits h e (ToItself r) v = role_fits e r v
-  line_fits h e NoLine v = tt
-
-  pub lines_fit : n ≤ 64 → lowest_forbidden n m k sheet ≡ rows_of m k → (ls : List Line) → Valid n m ls → LinesFit k sheet ls
-  lines_fit h e ls v i l = line_fits h e (line_at ls i) (v i l)
-
--- the search for a forbidden bit that comes to the end of the rows
-pub all_rows : (n m k : ℕ) (sheet : List ℕ) {r : ℕ} → r ≡ lowest_forbidden n m k sheet → rows_of m k ≤ r → lowest_forbidden n m k sheet ≡ rows_of m k
-unfolding lowest_forbidden
-all_rows n m k sheet e h =
-    let w = (lowest_is (forbidden n k sheet) 0 (rows_of m k)).within in
-    omega (arith, zero-add (rows_of m k))
 
 -- the two tests of a world
 pub refuting : (w : World) (a b : ℕ) → refutes w a b ≡ true → (x : ℕ) × (x < w.things) × Is w x a × (w.is_in x b ≡ false)
@@ -133,16 +79,16 @@ module _ (n m : ℕ) (s ws : List ℕ) (a b : ℕ) (sheet : List ℕ) where
   place = lowest_broken (world_of (things_by m sheet) sheet) (lines_of s) (counted s ws)
 
   -- an answer other than a refusal of the question is one of those
-  taken : {r : NoAnswer} → check_no n m s ws a b sheet ≡ r → ((why : Refusal) → no.Refused why ≡ r → ⊥) → cond (no_length_by m sheet) (check_rows n m k (lines_of s) (counted s ws) a b sheet) no.Length ≡ r
+  taken : {r : Result (Unit {0}) NoError} → check_no n m s ws a b sheet ≡ r → ((why : Refusal) → Err (no.Refused why) ≡ r → ⊥) → cond (no_length_by m sheet) (check_rows n m k (lines_of s) (counted s ws) a b sheet) (Err no.Length) ≡ r
   unfolding check_no
   taken {r} e question = after (check_question n m s ws a b) e
     where
-      after : (q : Checked) → no_after q n m s ws a b sheet ≡ r → cond (no_length_by m sheet) (check_rows n m k (lines_of s) (counted s ws) a b sheet) no.Length ≡ r
+      after : (q : Checked) → no_after q n m s ws a b sheet ≡ r → cond (no_length_by m sheet) (check_rows n m k (lines_of s) (counted s ws) a b sheet) (Err no.Length) ≡ r
       after (checked.Refused why) h = absurd (question why h)
       after (checked.Count c) h = h
 
   -- AN ACCEPTED NO SHEET IS A WORLD that obeys every line that counts and has a thing of a that is not in b: the goal does not follow
-  pub no_sound : check_no n m s ws a b sheet ≡ no.Accepted → Follows (lines_of s) (counted s ws) a b → ⊥
+  pub no_sound : check_no n m s ws a b sheet ≡ Ok tt → Follows (lines_of s) (counted s ws) a b → ⊥
   unfolding check_rows check_world
   no_sound e f =
       let l = cond_first (no_length_by m sheet) (taken e (λ why q. clash cc)) (λ q. clash cc) in
@@ -154,7 +100,7 @@ module _ (n m : ℕ) (s ws : List ℕ) (a b : ℕ) (sheet : List ℕ) where
       never (f w some (none_broken w (lines_of s) (counted s ws) (ltb-false place (length (lines_of s)) p.0)) t.0 t.1 t.2) t.3
 
   -- A SHEET THAT KEEPS THE RULES IS ACCEPTED
-  pub world_accepts : {c : ℕ} → check_question n m s ws a b ≡ checked.Count c → no_length_by m sheet ≡ true → ((i : ℕ) → i < rows_of m k → forbidden n k sheet i ≡ false) → Obeys w (lines_of s) (counted s ws) → (x : ℕ) → x < k → Is w x a → w.is_in x b ≡ false → check_no n m s ws a b sheet ≡ no.Accepted
+  pub world_accepts : {c : ℕ} → check_question n m s ws a b ≡ checked.Count c → no_length_by m sheet ≡ true → ((i : ℕ) → i < rows_of m k → forbidden n k sheet i ≡ false) → Obeys w (lines_of s) (counted s ws) → (x : ℕ) → x < k → Is w x a → w.is_in x b ≡ false → check_no n m s ws a b sheet ≡ Ok tt
   unfolding check_no check_rows check_world lowest_forbidden
   world_accepts e fit clean o x l p q =
       rw (

@@ -1,19 +1,67 @@
 -- Laws of a thing and its row: tests over 64 bits, and over the k things that a row speaks of.
 use mathlib.Core.Path.{◌≡◌, refl, sym, ap, ◌∙◌}
-use mathlib.Core.Bool.{Bool, true, false, not, ◌&&◌, and-true}
-use Prim.Native.Nat.{ℕ, suc, ◌-◌, ◌^◌, ◌≤◌, ◌<◌}
-use native.Mathlib.Decide.{dec_lt}
+use mathlib.Core.Bool.{Bool, true, false, not, ◌&&◌, ◌||◌, and-true}
+use Prim.Native.Nat.{ℕ, zero, suc, ◌+◌, ◌-◌, ◌^◌, ◌≤◌, ◌<◌}
+use native.Mathlib.Decide.{ℕ_discrete, dec_lt}
 use native.Mathlib.Omega.{arith, by_contra}
 use lib.Bits.{bit_and}
 use lib.Dec.{eqb}
+use Rattle.std.specs.List.{range_with_len, list_all, list_any}
 use borrow.Author.Tests.{eq-eqb, ne_eqb, eqb-true, eqb-false, not-true, not-false}
 use Rattle.bits.specs.Bit.{has}
 use Rattle.bits.specs.Sets.{lowest, every, some}
-use Rattle.bits.proofs.Truth.{and_no, alike, never, is_no}
+use Rattle.bits.proofs.Truth.{both_true, true_both, or_elim, or_left, or_right, and_no, alike, never, is_no}
 use Rattle.bits.proofs.SetLaws.{Lowest, lowest_is, lowest_at, every_true, true_every, every_false, some_true, true_some, some_false}
 use Rattle.bits.proofs.BitLaws.{meets_none, none_meets, contained, contains}
 use Rattle.pack.specs.Computed.{implies}
 use Rattle.pack.proofs.WorldLaws.{implies_true, true_implies}
+
+-- over the numbers below n: the test of the list of them is that of the set
+module _ (p : ℕ → Bool) where
+  all_each : (n a : ℕ) → list_all p (range_with_len a n) ≡ true → (j : ℕ) → a ≤ j → j < a + n → p j ≡ true
+  all_each zero a h j g l = absurd (omega arith)
+  all_each (suc n) a h j g l = go (ℕ_discrete a j) (both_true (p a) (list_all p (range_with_len (a + 1) n)) h) (all_each n (a + 1))
+    where
+      go : Dec (a ≡ j) → (p a ≡ true) × (list_all p (range_with_len (a + 1) n) ≡ true)
+          → (list_all p (range_with_len (a + 1) n) ≡ true → (j : ℕ) → a + 1 ≤ j → j < a + 1 + n → p j ≡ true) → p j ≡ true
+      go (yes e) b rest = ap p (sym e) ∙ b.0
+      go (no e) b rest = rest b.1 j (omega arith) (omega arith)
+
+  each_all : (n a : ℕ) → ((j : ℕ) → a ≤ j → j < a + n → p j ≡ true) → list_all p (range_with_len a n) ≡ true
+  each_all zero a f = refl
+  each_all (suc n) a f = true_both (p a) (list_all p (range_with_len (a + 1) n)) (f a (omega arith) (omega arith)) (each_all n (a + 1) (λ j g l. f j (omega arith) (omega arith)))
+
+  any_each : (n a : ℕ) → list_any p (range_with_len a n) ≡ true → (j : ℕ) × (j < a + n) × (p j ≡ true)
+  any_each zero a h = never {a = false} h refl
+  any_each (suc n) a h =
+      or_elim {C = (j : ℕ) × (j < a + suc n) × (p j ≡ true)} (p a) (list_any p (range_with_len (a + 1) n)) h
+      (λ e. (a, omega arith, e))
+      (λ e. let r = any_each n (a + 1) e in let l = r.1 in (r.0, omega arith, r.2))
+
+  each_any : (n a j : ℕ) → a ≤ j → j < a + n → p j ≡ true → list_any p (range_with_len a n) ≡ true
+  each_any zero a j g l h = absurd (omega arith)
+  each_any (suc n) a j g l h = go (ℕ_discrete a j) (each_any n (a + 1) j)
+    where
+      go : Dec (a ≡ j) → (a + 1 ≤ j → j < a + 1 + n → p j ≡ true → list_any p (range_with_len (a + 1) n) ≡ true) → (p a || list_any p (range_with_len (a + 1) n)) ≡ true
+      go (yes e) rest = or_left (p a) (list_any p (range_with_len (a + 1) n)) (ap p e ∙ h)
+      go (no e) rest = or_right (p a) (list_any p (range_with_len (a + 1) n)) (rest (omega arith) (omega arith) h)
+
+  pub list_every : (n : ℕ) → list_all p (range_with_len 0 n) ≡ every n p
+  list_every n =
+      alike (list_all p (range_with_len 0 n)) (every n p)
+      (λ h. true_every p n (λ j l. all_each n 0 h j (omega arith) (omega arith)))
+      (λ h. each_all n 0 (λ j g l. every_true p n h j (omega arith)))
+
+  pub list_some : (n : ℕ) → list_any p (range_with_len 0 n) ≡ some n p
+  list_some n =
+      alike (list_any p (range_with_len 0 n)) (some n p)
+      (λ h. let r = any_each n 0 h in let l = r.1 in true_some p n r.0 (omega arith) r.2)
+      (λ h. let r = some_true p n h in let l = r.1 in each_any n 0 r.0 (omega arith) (omega arith) r.2)
+
+-- the first number of a set below c is the lowest
+pub lowest_first : (p : ℕ → Bool) (c i : ℕ) → i < c → ((j : ℕ) → j < i → p j ≡ false) → p i ≡ true → lowest p 0 c ≡ i
+lowest_first p c i l none found =
+    sym (lowest_at p (record { from = omega arith; within = omega arith; none = λ j g h. none j h; found = λ h. found }))
 
 -- two words meet
 pub meet : (x y : ℕ) → x < 2 ^ 64 → not (eqb (bit_and x y) 0) ≡ some 64 (λ j. has x j && has y j)

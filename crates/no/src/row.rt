@@ -1,10 +1,12 @@
-// The rows of a no sheet: one read, and the lowest with a forbidden bit.
-ghost use Rattle.std.specs.Prelude.{◌≡◌, ◌&&◌, ◌*◌, ◌<◌, ◌/◌, leb, length};
+// The rows of a no sheet: one read, and the test that none has a forbidden bit.
+ghost use Rattle.std.specs.Prelude.{◌≡◌, ◌&&◌, ◌*◌, ◌<◌, ◌≤◌, ◌/◌, leb, length, MatchResult};
 ghost use Rattle.bits.specs.Bit.{has};
 ghost use Rattle.bits.specs.Sets.{some};
-ghost use Rattle.no.specs.NoSheet.{row_at, rows_of, forbidden};
+ghost use Rattle.no.specs.NoSheet.{row_at, rows_of};
 ghost use Rattle.no.specs.Computed.{lowest_forbidden};
+ghost use Rattle.no.specs.declared.check.NoError.TheVariants.{Row};
 
+use crate::check::NoError;
 use pack::bytes::read_word;
 
 // Row i of the sheet.
@@ -24,28 +26,19 @@ fn past_limit(word: u64, limit: usize) -> bool
     bits::next_bit(word, limit) < 64
 }
 
-// Does row i have a forbidden bit: at or above n in the first k rows, at or above k in the others?
-fn row_forbidden(sheet: &[u8], i: usize, n: usize, k: usize) -> bool
-    requires { i < length sheet.now / 8 }
-    ensures { result ≡ forbidden n k sheet.now i }
+// ROW at the lowest row with a forbidden bit: at or above n in the first k rows, at or above k in the others.
+pub fn check_rows(n: usize, m: usize, k: usize, sheet: &[u8]) -> Result<(), NoError>
+    requires { (m ≤ 8) × (k ≤ 64) × (length sheet.now ≡ rows_of m k * 8) }
+    ensures { MatchResult result
+        (λ _. lowest_forbidden n m k sheet.now ≡ rows_of m k)
+        (λ e. (lowest_forbidden n m k sheet.now < rows_of m k) × (e ≡ Row (lowest_forbidden n m k sheet.now))) }
 {
-    if i < k {
-        return past_limit(row_at(sheet, i), n);
-    }
-    past_limit(row_at(sheet, i), k)
-}
-
-// The lowest row with a forbidden bit, or the number of rows.
-pub fn lowest_forbidden(sheet: &[u8], n: usize, m: usize, k: usize, rows: usize) -> usize
-    requires { (rows ≡ rows_of m k) × (length sheet.now ≡ rows * 8) }
-    ensures { result ≡ lowest_forbidden n m k sheet.now }
-{
-    let mut i = 0;
-    while i < rows {
-        if row_forbidden(sheet, i, n, k) {
-            return i;
+    let rows = k * (1 + m);
+    for i in 0..rows {
+        let limit = if i < k { n } else { k };
+        if past_limit(row_at(sheet, i), limit) {
+            return Err(NoError::Row(i as u32));
         }
-        i += 1;
     }
-    i
+    Ok(())
 }

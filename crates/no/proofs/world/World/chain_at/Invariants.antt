@@ -8,14 +8,16 @@ use Rattle.bits.specs.Bit.{has}
 use Rattle.pack.specs.Computed.{implies}
 use Rattle.no.specs.NoSheet.{row_at}
 use Rattle.no.proofs.ThingLaws.{OkBefore}
-use Rattle.no.proofs.thing.chain_at.Given as goal
+use Rattle.no.proofs.world.World.chain_at.Given as goal
 
 -- the links of y by s are all among those of x by t
 abbrev pub Okay : List ℕ → ℕ → ℕ → ℕ → ℕ → ℕ → Bool
 Okay sheet k x s t y = every 64 (λ z. implies (has (row_at sheet (k + (s * k + y))) z) (has (row_at sheet (k + (t * k + x))) z))
 
 abbrev pub invariant-loop-y : goal.invariant-loop-y
-invariant-loop-y l = OkBefore (row_at l.sheet (l.k + (l.r * l.k + l.x))) (Okay l.sheet l.k l.x l.s l.t) l.rest l.y
+invariant-loop-y l =
+    let w = l.self in
+    OkBefore (row_at w.sheet.now (w.things + (l.r * w.things + l.x))) (Okay w.sheet.now w.things l.x l.s l.t) l.rest l.y
 
 abbrev pub decreases-loop-y : goal.decreases-loop-y
 decreases-loop-y l = 64 - l.y
