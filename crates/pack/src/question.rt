@@ -1,49 +1,59 @@
 // The question check: numbers 1 to 5 of document 01's table, else the record count.
-ghost use Rattle.std.specs.Prelude.{◌≡◌};
+ghost use Rattle.std.specs.Prelude.{◌≡◌, IfOk, IfErr, Err};
 ghost use Rattle.marks.specs.Marks.{marks_fit};
 ghost use Rattle.pack.specs.Question.{goal_fits, GivesQuestion};
-ghost use Rattle.pack.specs.Computed.{check_counted};
+ghost use Rattle.pack.specs.Computed.{check_counted, check_question};
 ghost use Rattle.pack.specs.Answers.{checked_told};
 
-use crate::check::{Checked, Refusal, check_pack};
+use crate::check::{Refusal, check_pack};
+use crate::taken::Taken;
 use marks::look::marks_fit;
 
-// Are both goal concepts below n?
-pub fn goal_fits(n: usize, a: usize, b: usize) -> bool
-    ensures { result ≡ goal_fits n a b }
-{
-    let low_a = a < n;
-    let low_b = b < n;
-    low_a & low_b
+// A question as it is asked, whatever its numbers, bytes and words: the sizes, the pack, the marks, and the goal, a under b.
+#[derive(Clone, Copy)]
+pub struct Question<'a> {
+    pub n: usize,
+    pub m: usize,
+    pub pack: &'a [u8],
+    pub marks: &'a [u64],
+    pub a: usize,
+    pub b: usize,
 }
 
-// The marks and the goal, for a pack of `count` records.
-fn check_counted(n: usize, count: u32, marks: &[u64], a: usize, b: usize) -> Checked
-    ensures { result ≡ check_counted n count (marks_fit marks.now count) a b }
-{
-    if marks_fit(marks, count as usize) {
-        if goal_fits(n, a, b) {
-            return Checked::Count(count);
-        }
-        return Checked::Refused(Refusal::Goal);
+impl<'a> Question<'a> {
+    // Are both goal concepts below n?
+    pub fn goal_fits(&self) -> bool
+        ensures { result ≡ goal_fits self.now.n self.now.a self.now.b }
+    {
+        let low_a = self.a < self.n;
+        let low_b = self.b < self.n;
+        low_a & low_b
     }
-    Checked::Refused(Refusal::Marks)
-}
 
-// The question check, for any sizes, bytes, words and goal.
-pub fn check_question<'a>(
-    n: usize,
-    m: usize,
-    pack: &'a [u8],
-    marks: &'a [u64],
-    a: usize,
-    b: usize,
-) -> Checked
-    ensures { GivesQuestion n m pack.now marks.now a b (checked_told result).0 (checked_told result).1 }
-{
-    let checked = check_pack(n, m, pack);
-    match checked {
-        Checked::Refused(why) => Checked::Refused(why),
-        Checked::Count(count) => check_counted(n, count, marks, a, b),
+    // The question check.
+    pub fn check(&self) -> Result<u32, Refusal>
+        ensures { GivesQuestion self.now.n self.now.m self.now.pack.now self.now.marks.now self.now.a self.now.b (checked_told result).0 (checked_told result).1 }
+    {
+        let count = check_pack(self.n, self.m, self.pack)?;
+        if !marks_fit(self.marks, count as usize) {
+            return Err(Refusal::Marks);
+        }
+        if !self.goal_fits() {
+            return Err(Refusal::Goal);
+        }
+        Ok(count)
+    }
+
+    // The same question, taken, where nothing is refused.
+    pub fn take(&self) -> Result<Taken<'a>, Refusal> {
+        let _count = self.check()?;
+        Ok(Taken {
+            n: self.n,
+            m: self.m,
+            pack: self.pack,
+            marks: self.marks,
+            a: self.a,
+            b: self.b,
+        })
     }
 }
