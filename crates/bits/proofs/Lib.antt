@@ -2,6 +2,7 @@
 pub mod Truth
 pub mod SetLaws
 pub mod FoundLaws
+pub mod WalkLaws
 pub mod Sums
 pub mod ListLaws
 pub mod BitLaws

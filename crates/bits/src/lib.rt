@@ -5,6 +5,10 @@ ghost use Rattle.std.specs.Prelude.{◌≡◌, cond, not, ◌&&◌, ◌||◌, �
 ghost use Rattle.bits.specs.Bit.{has, with_bit};
 ghost use Rattle.bits.specs.Sets.{lowest, found_below, count_to};
 
+pub mod walk;
+
+use crate::walk::Ones;
+
 // Is bit j mod 64 of w set?
 pub fn test_bit(w: u64, j: usize) -> bool
     ensures { result ≡ has w (j % 64) }
@@ -72,4 +76,11 @@ pub fn count_bits(w: u64) -> u32
     ensures { result ≡ count_to (has w) 64 }
 {
     w.count_ones()
+}
+
+// The set bits of w, ascending.
+pub fn ones(w: u64) -> Ones
+    ensures { result ≡ record { word = w; from = 0 } }
+{
+    Ones { word: w, from: 0 }
 }

@@ -3,6 +3,8 @@ ghost use Rattle.std.specs.Prelude.{◌≡◌, ◌-◌, get_or};
 ghost use Rattle.bits.specs.Sets.{lowest, found_below};
 ghost use Rattle.marks.specs.Marks.{marked, marks_fit, mark_count};
 
+use crate::walk::Places;
+
 // Word j of the marks; none past their end.
 pub fn mark_word(marks: &[u64], j: usize) -> u64
     ensures { result ≡ get_or marks.now j 0 }
@@ -27,6 +29,14 @@ pub fn next_marked(marks: &[u64], from: usize) -> Option<usize>
         }
     }
     None
+}
+
+// The marked places, ascending.
+pub fn places(marks: &[u64]) -> Places<'_>
+    ensures from { result.from ≡ 0 }
+    ensures marks { result.marks.now ≡ marks.now }
+{
+    Places { marks, from: 0 }
 }
 
 // How many places are marked.
