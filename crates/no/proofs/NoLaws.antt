@@ -13,8 +13,6 @@ use Rattle.bits.specs.Bit.{has}
 use Rattle.bits.proofs.Truth.{both_true, true_both, never, is_no, clash, cond_first, cond_second}
 use Rattle.bits.proofs.SetLaws.{lowest_is, lowest_none, none_lowest, first_none, some_true, true_some}
 use Rattle.pack.specs.declared.check.Refusal.{Refusal}
-use Rattle.pack.specs.declared.check.Checked.{Checked}
-use Rattle.pack.specs.declared.check.Checked.TheVariants as checked
 use Rattle.pack.specs.declared.line.Line.{Line}
 use Rattle.pack.specs.declared.line.Line.TheVariants.{Under, BothUnder, UnderSome, SomeUnder, RoleUnder, ChainUnder, ToItself, NoLine}
 use Rattle.pack.specs.World.{World, Is, Obeys, Follows, line_at}
@@ -83,9 +81,9 @@ module _ (n m : ℕ) (s ws : List ℕ) (a b : ℕ) (sheet : List ℕ) where
   unfolding check_no
   taken {r} e question = after (check_question n m s ws a b) e
     where
-      after : (q : Checked) → no_after q n m s ws a b sheet ≡ r → cond (no_length_by m sheet) (check_rows n m k (lines_of s) (counted s ws) a b sheet) (Err no.Length) ≡ r
-      after (checked.Refused why) h = absurd (question why h)
-      after (checked.Count c) h = h
+      after : (q : Result ℕ Refusal) → no_after q n m s ws a b sheet ≡ r → cond (no_length_by m sheet) (check_rows n m k (lines_of s) (counted s ws) a b sheet) (Err no.Length) ≡ r
+      after (Err why) h = absurd (question why h)
+      after (Ok c) h = h
 
   -- AN ACCEPTED NO SHEET IS A WORLD that obeys every line that counts and has a thing of a that is not in b: the goal does not follow
   pub no_sound : check_no n m s ws a b sheet ≡ Ok tt → Follows (lines_of s) (counted s ws) a b → ⊥
@@ -100,7 +98,7 @@ module _ (n m : ℕ) (s ws : List ℕ) (a b : ℕ) (sheet : List ℕ) where
       never (f w some (none_broken w (lines_of s) (counted s ws) (ltb-false place (length (lines_of s)) p.0)) t.0 t.1 t.2) t.3
 
   -- A SHEET THAT KEEPS THE RULES IS ACCEPTED
-  pub world_accepts : {c : ℕ} → check_question n m s ws a b ≡ checked.Count c → no_length_by m sheet ≡ true → ((i : ℕ) → i < rows_of m k → forbidden n k sheet i ≡ false) → Obeys w (lines_of s) (counted s ws) → (x : ℕ) → x < k → Is w x a → w.is_in x b ≡ false → check_no n m s ws a b sheet ≡ Ok tt
+  pub world_accepts : {c : ℕ} → check_question n m s ws a b ≡ Ok c → no_length_by m sheet ≡ true → ((i : ℕ) → i < rows_of m k → forbidden n k sheet i ≡ false) → Obeys w (lines_of s) (counted s ws) → (x : ℕ) → x < k → Is w x a → w.is_in x b ≡ false → check_no n m s ws a b sheet ≡ Ok tt
   unfolding check_no check_rows check_world lowest_forbidden
   world_accepts e fit clean o x l p q =
       rw (

@@ -17,7 +17,6 @@ use Rattle.bits.proofs.SetLaws.{lowest_is, lowest_at}
 use Rattle.bits.proofs.Truth.{both_true, true_both, never, is_no}
 use Rattle.pack.specs.declared.check.Refusal.{Refusal}
 use Rattle.pack.specs.declared.check.Refusal.TheVariants.{Sizes, Pack, Record, Marks, Goal}
-use Rattle.pack.specs.declared.check.Checked.TheVariants as checked
 use Rattle.pack.specs.declared.line.Line.{Line}
 use Rattle.pack.specs.Question.{counted, question_rows, Taken}
 use Rattle.pack.specs.Computed.{obeys, check_question, refusal_number, refusal_place}
@@ -177,7 +176,7 @@ module _ (n m : ℕ) (s ws : List ℕ) (a b : ℕ) (sheet : List ℕ) where
             ),
           ))
 
-  pub no_refused : {why : Refusal} → check_question n m s ws a b ≡ checked.Refused why → GivesNo n m s ws a b sheet (refusal_number why) (refusal_place why)
+  pub no_refused : {why : Refusal} → check_question n m s ws a b ≡ Err why → GivesNo n m s ws a b sheet (refusal_number why) (refusal_place why)
   unfolding check_no
   no_refused e = rw e at no_given
 

@@ -2,8 +2,7 @@
 -- says what the page Answers means is proved (no/proofs/Promises).
 use Rattle.std.specs.Prelude.{Bool, cond, not, ◌&&◌, List, ℕ, ◌+◌, ◌*◌, ◌/◌, ◌%◌, eqb, ltb, leb, length, Result, Ok, Err}
 use Rattle.bits.specs.Sets.{lowest, some}
-use Rattle.pack.specs.declared.check.Checked.{Checked}
-use Rattle.pack.specs.declared.check.Checked.TheVariants as checked
+use Rattle.pack.specs.declared.check.Refusal.{Refusal}
 use Rattle.pack.specs.declared.line.Line.{Line}
 use Rattle.pack.specs.World.{World, line_at}
 use Rattle.pack.specs.Record.{lines_of}
@@ -48,9 +47,9 @@ check_rows n m k ls S a b sheet =
     (check_world (world_of k sheet) ls S a b)
 
 -- 1 to 5, 9 LENGTH, then the rows
-abbrev pub no_after : Checked → ℕ → ℕ → List ℕ → List ℕ → ℕ → ℕ → List ℕ → Result (Unit {0}) NoError
-no_after (checked.Refused why) n m s ws a b sheet = Err (no.Refused why)
-no_after (checked.Count c) n m s ws a b sheet =
+abbrev pub no_after : Result ℕ Refusal → ℕ → ℕ → List ℕ → List ℕ → ℕ → ℕ → List ℕ → Result (Unit {0}) NoError
+no_after (Err why) n m s ws a b sheet = Err (no.Refused why)
+no_after (Ok c) n m s ws a b sheet =
     cond (no_length_by m sheet) (check_rows n m (things_by m sheet) (lines_of s) (counted s ws) a b sheet) (Err no.Length)
 
 unfoldable pub check_no : ℕ → ℕ → List ℕ → List ℕ → ℕ → ℕ → List ℕ → Result (Unit {0}) NoError

@@ -1,22 +1,23 @@
-// The no check: numbers 1 to 5, 9, 11, 12 and 13 of document 01's table, else ACCEPTED.
-ghost use Rattle.std.specs.Prelude.{◌≡◌, not, ◌&&◌, ◌*◌, ◌≤◌, ◌<◌, ◌/◌, Bool, true, false, length, MatchResult};
-ghost use Rattle.pack.specs.Computed.{Admitted};
-ghost use Rattle.pack.specs.Record.{lines_of, Valid};
+// The no check: numbers 1 to 5, 9, 11, 12 and 13 of document 01's table, else the sheet is accepted.
+ghost use Rattle.std.specs.Prelude.{◌≡◌, ◌≤◌, ◌<◌, false, true, length, MatchResult};
+ghost use Rattle.pack.specs.Record.{lines_of};
 ghost use Rattle.pack.specs.Question.{counted};
+ghost use Rattle.no.specs.declared.check.NoError.TheVariants.{Refused, Length, Broken};
 ghost use Rattle.no.specs.NoSheet.{world_of};
 ghost use Rattle.no.specs.Computed.{things_by, no_length_by, lowest_broken, check_no};
-ghost use Rattle.no.specs.Answers.{no_told, GivesNo};
-ghost use Rattle.no.specs.declared.check.NoError.TheVariants.{Length, Broken};
+ghost use Rattle.no.specs.Answers.{no_told, no_error_told, GivesNo};
 
 use crate::row::check_rows;
 use crate::world::World;
 use marks::look::is_marked;
-use pack::check::{Checked, Refusal};
+use pack::check::Refusal;
 use pack::line::line_at;
-use pack::question::check_question;
+use pack::question::Question;
+use pack::taken::Taken;
+use pack::told::Told;
 
-// Why a no sheet is not accepted.
-#[derive(Clone, Copy)]
+// Why a no sheet is not accepted, in the order of document 01's table.
+#[derive(Clone, Copy, Debug, PartialEq, Eq)]
 pub enum NoError {
     Refused(Refusal),
     Length,
@@ -25,12 +26,41 @@ pub enum NoError {
     NotShown,
 }
 
-// The number of things of a sheet, 1 to 64, where its length is theirs.
+impl From<Refusal> for NoError {
+    ghost from_gives = { λ why e. e ≡ Refused why };
+
+    fn from(why: Refusal) -> NoError {
+        NoError::Refused(why)
+    }
+}
+
+impl Told for NoError {
+    ghost told = { no_error_told };
+
+    fn number(&self) -> u32 {
+        match self {
+            NoError::Refused(why) => why.number(),
+            NoError::Length => 9,
+            NoError::Row(_) => 11,
+            NoError::Broken(_) => 12,
+            NoError::NotShown => 13,
+        }
+    }
+
+    fn value(&self) -> u64 {
+        match self {
+            NoError::Refused(why) => why.value(),
+            NoError::Row(row) => *row as u64,
+            NoError::Broken(place) => *place as u64,
+            _ => 0,
+        }
+    }
+}
+
+// The number of things that a sheet of m roles has by its length, 1 to 64.
 fn count_things(m: usize, sheet: &[u8]) -> Result<usize, NoError>
     requires { m ≤ 8 }
-    ensures { MatchResult result
-        (λ k. (k ≡ things_by m sheet.now) × (no_length_by m sheet.now ≡ true))
-        (λ e. (no_length_by m sheet.now ≡ false) × (e ≡ Length)) }
+    ensures { MatchResult result (λ k. (k ≡ things_by m sheet.now) × (no_length_by m sheet.now ≡ true)) (λ e. (e ≡ Length) × (no_length_by m sheet.now ≡ false)) }
 {
     let thing = 8 * (1 + m);
     let things = sheet.len() / thing;
@@ -40,15 +70,13 @@ fn count_things(m: usize, sheet: &[u8]) -> Result<usize, NoError>
     Ok(things)
 }
 
-// BROKEN at the lowest place that counts and whose line the world does not obey.
-fn check_lines(pack: &[u8], marks: &[u64], world: &World) -> Result<(), NoError>
-    requires { (length pack.now ≤ 8192) × Valid world.now.concepts world.now.roles (lines_of pack.now) }
-    ensures { let w = world_of world.now.things world.now.sheet.now in let broken = lowest_broken w (lines_of pack.now) (counted pack.now marks.now) in MatchResult result
-        (λ _. broken ≡ length (lines_of pack.now))
-        (λ e. (broken < length (lines_of pack.now)) × (e ≡ Broken broken)) }
+// Does the world obey the line at each place that counts? If not, the lowest that it breaks.
+fn check_lines(q: &Taken, world: &World) -> Result<(), NoError>
+    requires { (world.now.concepts ≡ q.now.n) × (world.now.roles ≡ q.now.m) }
+    ensures { let ls = lines_of q.now.pack.now in let place = lowest_broken (world_of world.now.things world.now.sheet.now) ls (counted q.now.pack.now q.now.marks.now) in MatchResult result (λ _. place ≡ length ls) (λ e. (e ≡ Broken place) × (place < length ls)) }
 {
-    for place in 0..pack.len() / 8 {
-        if is_marked(marks, place) && !world.obeys(line_at(pack, place)) {
+    for place in 0..q.pack.len() / 8 {
+        if is_marked(q.marks, place) && !world.obeys(line_at(q.pack, place)) {
             return Err(NoError::Broken(place as u32));
         }
     }
@@ -56,48 +84,28 @@ fn check_lines(pack: &[u8], marks: &[u64], world: &World) -> Result<(), NoError>
 }
 
 // The no check, for a question that is taken.
-fn check_taken(
-    n: usize,
-    m: usize,
-    pack: &[u8],
-    marks: &[u64],
-    a: usize,
-    b: usize,
-    sheet: &[u8],
-) -> Result<(), NoError>
-    requires { Admitted n m pack.now marks.now a b }
-    ensures { result ≡ check_no n m pack.now marks.now a b sheet.now }
+fn check_taken(q: &Taken, sheet: &[u8]) -> Result<(), NoError>
+    ensures { result ≡ check_no q.now.n q.now.m q.now.pack.now q.now.marks.now q.now.a q.now.b sheet.now }
 {
-    let things = count_things(m, sheet)?;
-    check_rows(n, m, things, sheet)?;
+    let things = count_things(q.m, sheet)?;
+    check_rows(q.n, q.m, things, sheet)?;
     let world = World {
-        concepts: n,
-        roles: m,
+        concepts: q.n,
+        roles: q.m,
         things,
         sheet,
     };
-    check_lines(pack, marks, &world)?;
-    if !world.refutes(a as u8, b as u8) {
+    check_lines(q, &world)?;
+    if !world.refutes(q.a as u8, q.b as u8) {
         return Err(NoError::NotShown);
     }
     Ok(())
 }
 
-// The no check, for any input.
-pub fn check_no(
-    n: usize,
-    m: usize,
-    pack: &[u8],
-    marks: &[u64],
-    a: usize,
-    b: usize,
-    sheet: &[u8],
-) -> Result<(), NoError>
-    ensures { GivesNo n m pack.now marks.now a b sheet.now (no_told result).0 (no_told result).1 }
+// The no check, for any question and any bytes.
+pub fn check_no(q: &Question, sheet: &[u8]) -> Result<(), NoError>
+    ensures { GivesNo q.now.n q.now.m q.now.pack.now q.now.marks.now q.now.a q.now.b sheet.now (no_told result).0 (no_told result).1 }
 {
-    let checked = check_question(n, m, pack, marks, a, b);
-    match checked {
-        Checked::Refused(why) => Err(NoError::Refused(why)),
-        Checked::Count(_) => check_taken(n, m, pack, marks, a, b, sheet),
-    }
+    let taken = q.take()?;
+    check_taken(&taken, sheet)
 }

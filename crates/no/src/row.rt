@@ -23,7 +23,7 @@ pub fn row_at(sheet: &[u8], i: usize) -> u64
 fn past_limit(word: u64, limit: usize) -> bool
     ensures { result ≡ some 64 (λ j. leb limit j && has word j) }
 {
-    bits::next_bit(word, limit) < 64
+    bits::next_bit(word, limit).is_some()
 }
 
 // ROW at the lowest row with a forbidden bit: at or above n in the first k rows, at or above k in the others.

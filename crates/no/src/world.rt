@@ -72,16 +72,7 @@ impl<'a> World<'a> {
         ensures { let k = self.now.things in let rows = self.now.sheet.now in result ≡ every k (λ y. implies (has (row_at rows (k + (r * k + x))) y) (every 64 (λ z. implies (has (row_at rows (k + (s * k + y))) z) (has (row_at rows (k + (t * k + x))) z)))) }
     {
         let whole = self.links_of(x, t);
-        let mut rest = self.links_of(x, r);
-        let mut y = bits::next_bit(rest, 0);
-        while y < 64 {
-            if !row_inside(self.links_of(y, s), whole) {
-                return false;
-            }
-            rest = bits::without_lowest(rest);
-            y = bits::next_bit(rest, 0);
-        }
-        true
+        bits::ones(self.links_of(x, r)).all(|y| row_inside(self.links_of(y, s), whole))
     }
 
     // Does thing x obey the line?
