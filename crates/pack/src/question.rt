@@ -46,7 +46,9 @@ impl<'a> Question<'a> {
 
     // The same question, taken, where nothing is refused.
     pub fn take(&self) -> Result<Taken<'a>, Refusal>
-        ensures same { IfOk result (λ t. (t.n ≡ self.now.n) × (t.m ≡ self.now.m) × (t.pack.now ≡ self.now.pack.now) × (t.marks.now ≡ self.now.marks.now) × (t.a ≡ self.now.a) × (t.b ≡ self.now.b)) }
+        ensures same { IfOk result (λ t. (t.n ≡ self.now.n) × (t.m ≡ self.now.m)
+            × (t.pack.now ≡ self.now.pack.now) × (t.marks.now ≡ self.now.marks.now)
+            × (t.a ≡ self.now.a) × (t.b ≡ self.now.b)) }
         ensures refused { IfErr result (λ why. check_question self.now.n self.now.m self.now.pack.now self.now.marks.now self.now.a self.now.b ≡ Err why) }
     {
         let _count = self.check()?;
