@@ -9,7 +9,7 @@ ghost use Rattle.no.specs.Answers.{no_told, no_error_told, GivesNo};
 
 use crate::row::check_rows;
 use crate::world::World;
-use marks::look::is_marked;
+use marks::look::places;
 use pack::check::Refusal;
 use pack::line::line_at;
 use pack::question::Question;
@@ -75,8 +75,8 @@ fn check_lines(q: &Taken, world: &World) -> Result<(), NoError>
     requires { (world.now.concepts ≡ q.now.n) × (world.now.roles ≡ q.now.m) }
     ensures { let ls = lines_of q.now.pack.now in let place = lowest_broken (world_of world.now.things world.now.sheet.now) ls (counted q.now.pack.now q.now.marks.now) in MatchResult result (λ _. place ≡ length ls) (λ e. (e ≡ Broken place) × (place < length ls)) }
 {
-    for place in 0..q.pack.len() / 8 {
-        if is_marked(q.marks, place) && !world.obeys(line_at(q.pack, place)) {
+    for place in places(q.marks) {
+        if !world.obeys(line_at(q.pack, place)) {
             return Err(NoError::Broken(place as u32));
         }
     }
