@@ -4,21 +4,25 @@ use mathlib.Core.Bool.{Bool, true, false, cond, not, ◌&&◌}
 use mathlib.Core.List.{List}
 use Prim.Native.Nat.{ℕ, suc, ◌+◌, ◌*◌, ◌%◌, ◌≤◌, ◌<◌}
 use native.Mathlib.Nat.{mul-add, mul-one, mul_comm, mul_assoc, suc-mul, mul-le-mul_right, mul-le-mul_left, div-add-mod', zero-add}
+use native.Mathlib.Decide.{dec_lt}
 use native.Mathlib.Omega.{arith}
+use borrow.Author.Count.{below_more}
 use lib.Dec.{eqb, ltb, leb}
 use lib.ListN.{length}
-use borrow.Author.Tests.{le-ltb, ltb-false, leb-true, le-leb, not-true, not-false}
+use borrow.Author.Tests.{eqb-true, le-ltb, ltb-false, leb-true, le-leb, not-true, not-false}
 use Rattle.std.specs.Prelude.{Result, Ok, Err}
 use Rattle.bits.specs.Bit.{has}
-use Rattle.bits.proofs.Truth.{both_true, true_both, never, is_no, clash, cond_first, cond_second}
+use Rattle.bits.proofs.Truth.{both_true, and_no, never, clash, cond_first, cond_second}
+use Rattle.bits.proofs.FoundLaws.{Found, Missing}
 use Rattle.bits.proofs.SetLaws.{lowest_is, lowest_none, none_lowest, first_none, some_true, true_some}
 use Rattle.pack.specs.declared.check.Refusal.{Refusal}
 use Rattle.pack.specs.declared.line.Line.{Line}
-use Rattle.pack.specs.declared.line.Line.TheVariants.{Under, BothUnder, UnderSome, SomeUnder, RoleUnder, ChainUnder, ToItself, NoLine}
 use Rattle.pack.specs.World.{World, Is, Obeys, Follows, line_at}
 use Rattle.pack.specs.Computed.{obeys, check_question}
-use Rattle.pack.specs.Record.{lines_of, ValidLine, Valid}
+use Rattle.pack.specs.Record.{lines_of, record_count}
 use Rattle.pack.specs.Question.{counted}
+use Rattle.no.proofs.ThingLaws.{lowest_first}
+use Rattle.pack.proofs.QuestionLaws.{asked}
 use Rattle.pack.proofs.WorldLaws.{obeys_line, line_obeys}
 use Rattle.no.specs.declared.check.NoError.{NoError}
 use Rattle.no.specs.declared.check.NoError.TheVariants as no
@@ -26,12 +30,30 @@ use Rattle.no.specs.NoSheet.{row_at, rows_of, forbidden, world_of}
 use Rattle.no.specs.Computed.{things_by, no_length_by, lowest_forbidden, lowest_broken, refutes, check_world, check_rows, no_after, check_no}
 
 -- a length that is a multiple of 8 · (1 + m) is that of its things' rows
-pub whole_rows : (m : ℕ) (sheet : List ℕ) → length sheet % (8 * (1 + m)) ≡ 0 → length sheet ≡ rows_of m (things_by m sheet) * 8
+whole_rows : (m : ℕ) (sheet : List ℕ) → length sheet % (8 * (1 + m)) ≡ 0 → length sheet ≡ rows_of m (things_by m sheet) * 8
 whole_rows m sheet e =
     let k = things_by m sheet in
     let d : k * (8 * (1 + m)) + length sheet % (8 * (1 + m)) ≡ length sheet = div-add-mod' (length sheet) (8 * (1 + m)) in
     let f : k * (8 * (1 + m)) ≡ k * (1 + m) * 8 = ap (λ (v : ℕ). k * v) (mul_comm 8 (1 + m)) ∙ sym (mul_assoc k (1 + m) 8) in
     omega arith
+
+-- a length that fits is that of at most 64 things
+pub rows_fit : (m : ℕ) (sheet : List ℕ) → no_length_by m sheet ≡ true → (things_by m sheet ≤ 64) × (length sheet ≡ rows_of m (things_by m sheet) * 8)
+rows_fit m sheet h =
+    let p = both_true (eqb (length sheet % (8 * (1 + m))) 0) (leb 1 (things_by m sheet) && leb (things_by m sheet) 64) h in
+    (leb-true (things_by m sheet) 64 (both_true (leb 1 (things_by m sheet)) (leb (things_by m sheet) 64) p.1).1, whole_rows m sheet (eqb-true (length sheet % (8 * (1 + m))) 0 p.0))
+
+-- a place that counts is that of a record
+pub counted_below : (n m : ℕ) (s ws : List ℕ) (a b : ℕ) → check_question n m s ws a b ≡ Ok (record_count s) → (i : ℕ) → counted s ws i ≡ true → i < record_count s
+counted_below n m s ws a b e i h = go (dec_lt i (record_count s))
+  where
+    go : Dec (i < record_count s) → i < record_count s
+    go (yes l) = l
+    go (no l) = never h ((asked n m s ws a b e).marks.above i (omega (arith, l)))
+
+-- what came to the end is not below it
+pub not_below : {i k : ℕ} → i ≡ k → ltb i k ≡ false
+not_below {i} {k} e = le-ltb i k (omega arith)
 
 -- the two tests of a world
 pub refuting : (w : World) (a b : ℕ) → refutes w a b ≡ true → (x : ℕ) × (x < w.things) × Is w x a × (w.is_in x b ≡ false)
@@ -49,6 +71,31 @@ module _ (w : World) (ls : List Line) (S : ℕ → Bool) where
   -- place i counts, and its line is broken
   abbrev pub broken_at : ℕ → Bool
   broken_at i = S i && not (obeys w (line_at ls i))
+
+  -- at the next place of S, past those that are not in S: none before it is broken
+  pub passed : {i c j : ℕ} → ((x : ℕ) → x < i → broken_at x ≡ false) → Found S i c j → (x : ℕ) → x < j → broken_at x ≡ false
+  passed {i} f t x l = go (dec_lt x i)
+    where
+      go : Dec (x < i) → broken_at x ≡ false
+      go (yes h) = f x h
+      go (no h) = rw (t.before x (omega arith) l)
+
+  -- nor it, where the world obeys its line; nor any, where none is left
+  pub passed_on : {i c j : ℕ} → ((x : ℕ) → x < i → broken_at x ≡ false) → Found S i c j → obeys w (line_at ls j) ≡ true → (x : ℕ) → x < j + 1 → broken_at x ≡ false
+  passed_on {j = j} f t o = below_more _ _ (passed f t) (and_no (S j) (not (obeys w (line_at ls j))) (rw o))
+
+  pub passed_all : {i c : ℕ} → ((x : ℕ) → x < i → broken_at x ≡ false) → Missing S i c → length ls ≤ c → lowest_broken w ls S ≡ length ls
+  unfolding lowest_broken
+  passed_all {i} f m h = none_lowest broken_at 0 (length ls) (λ x g l. go x (omega (arith, zero-add (length ls))) (dec_lt x i)) ∙ zero-add (length ls)
+    where
+      go : (x : ℕ) → x < length ls → Dec (x < i) → broken_at x ≡ false
+      go x l (yes q) = f x q
+      go x l (no q) = rw (m.none x (omega arith) (omega arith))
+
+  -- the first that is broken is the lowest
+  pub broken_first : (i : ℕ) → i < length ls → ((x : ℕ) → x < i → broken_at x ≡ false) → S i ≡ true → obeys w (line_at ls i) ≡ false → lowest_broken w ls S ≡ i
+  unfolding lowest_broken
+  broken_first i l f s o = lowest_first broken_at (length ls) i l f (rw (s, o))
 
   none_broken : length ls ≤ lowest_broken w ls S → Obeys w ls S
   unfolding lowest_broken

@@ -31,7 +31,7 @@ use Rattle.no.specs.declared.check.NoError.TheVariants as no
 use Rattle.no.specs.NoSheet.{rows_of, things_in, forbidden, world_of}
 use Rattle.no.specs.Computed.{things_by, no_length_by, lowest_forbidden, lowest_broken, refutes, check_world, check_rows, check_no, no_number, no_place}
 use Rattle.no.specs.Answers.{no_told, row_rows, GivesNo}
-use Rattle.no.proofs.NoLaws.{refuting, refuted, broken_at, no_sound, world_accepts}
+use Rattle.no.proofs.NoLaws.{rows_fit, refuting, refuted, broken_at, no_sound, world_accepts}
 
 -- THE NUMBER OF THINGS by division is the one that is meant
 module _ (m : ℕ) (sheet : List ℕ) where
@@ -76,10 +76,7 @@ module _ (m : ℕ) (sheet : List ℕ) where
           (true_both (leb 1 (things_by m sheet)) (leb (things_by m sheet) 64) (le-leb 1 (things_by m sheet) (omega arith)) (le-leb (things_by m sheet) 64 (omega arith)))) h
 
   things_few : no_length_by m sheet ≡ true → 64 < things_by m sheet → ⊥
-  things_few h l =
-      let k = things_by m sheet in
-      let p = both_true (eqb (length sheet % (8 * (1 + m))) 0) (leb 1 k && leb k 64) h in
-      omega (arith, leb-true k 64 (both_true (leb 1 k) (leb k 64) p.1).1)
+  things_few h l = omega (arith, (rows_fit m sheet h).0)
 
 -- an answer is told by its number and place
 pub no_told_by : (x y : Result (Unit {0}) NoError) → no_number x ≡ no_number y → no_place x ≡ no_place y → x ≡ y

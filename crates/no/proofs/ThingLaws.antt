@@ -82,14 +82,14 @@ folds_same R same (x ∷ xs) p q y = folds_same R same xs y.0 q y.2 ∙ same p x
 module _ {S K : Type 0} (c : ℕ) (set : K → ℕ → Bool) (holds : S → K) (from : S → ℕ) where
   walk_held : (xs : List ℕ) (s t : S) → Yields (WalkStep c set holds from) s xs t → holds t ≡ holds s
   walk_held [] s t e = ap holds (sym e)
-  walk_held (x ∷ xs) s t y = walk_held xs y.0 t y.2 ∙ y.1.1
+  walk_held (x ∷ xs) s t y = walk_held xs y.0 t y.2 ∙ y.1.keeps
 
   pub walk_serves : {P : Type 0} (R : P → ℕ → P → Type 0) (Q : P → ℕ → Type 0) (s : S) (p : P) → ((p : P) (x : ℕ) (q : P) → R p x q → q ≡ p) → ((x : ℕ) → x < c → set (holds s) x ≡ true → Q p x)
       → CallableAtEachTurn (WalkStep c set holds from) R Q s p
   walk_serves R Q s p same ask =
       record {
         at = λ xs t q x u y f h.
-            let g = found h.0 in
+            let g = found h.gives in
             rw (folds_same R same xs p q f) (ask x g.there (rw (walk_held xs s t y) at g.here));
       }
 

@@ -31,7 +31,7 @@ pub fn check_rows(n: usize, m: usize, k: usize, sheet: &[u8]) -> Result<(), NoEr
     requires { (m ≤ 8) × (k ≤ 64) × (length sheet.now ≡ rows_of m k * 8) }
     ensures { MatchResult result
         (λ _. lowest_forbidden n m k sheet.now ≡ rows_of m k)
-        (λ e. (lowest_forbidden n m k sheet.now < rows_of m k) × (e ≡ Row (lowest_forbidden n m k sheet.now))) }
+        (λ e. (e ≡ Row (lowest_forbidden n m k sheet.now)) × (lowest_forbidden n m k sheet.now < rows_of m k)) }
 {
     let rows = k * (1 + m);
     for i in 0..rows {

@@ -25,7 +25,7 @@ unfolding lowest_forbidden
 returns-then-past_limit c =
     let p = goal.at.returns-then-past_limit c in
     let e = lowest_first _ (rows_of c.args.m c.args.k) c.loop-i.i c.loop-i-test.true c.loop-i.invariant (told p.After-past_limit ∙ c.if-past_limit.true) in
-    rw e (c.loop-i-test.true, refl)
+    rw e (refl, c.loop-i-test.true)
 
 pub loop-i-preserved : goal.loop-i-preserved
 loop-i-preserved c =
