@@ -2,19 +2,18 @@
 use mathlib.Core.Path.{◌≡◌, refl, sym, ap, ◌∙◌}
 use mathlib.Core.Bool.{Bool, true, false, cond, not, ◌&&◌}
 use mathlib.Core.List.{List}
-use Prim.Native.Nat.{ℕ, suc, ◌+◌, ◌*◌, ◌%◌, ◌≤◌, ◌<◌}
-use native.Mathlib.Nat.{mul-add, mul-one, mul_comm, mul_assoc, suc-mul, mul-le-mul_right, mul-le-mul_left, div-add-mod', zero-add}
+use Prim.Native.Nat.{ℕ, ◌+◌, ◌*◌, ◌%◌, ◌≤◌, ◌<◌}
+use native.Mathlib.Nat.{mul_comm, mul_assoc, div-add-mod', zero-add}
 use native.Mathlib.Decide.{dec_lt}
 use native.Mathlib.Omega.{arith}
 use borrow.Author.Count.{below_more}
 use lib.Dec.{eqb, ltb, leb}
 use lib.ListN.{length}
-use borrow.Author.Tests.{eqb-true, le-ltb, ltb-false, leb-true, le-leb, not-true, not-false}
+use borrow.Author.Tests.{eqb-true, le-ltb, ltb-false, leb-true, not-true, not-false}
 use Rattle.std.specs.Prelude.{Result, Ok, Err}
-use Rattle.bits.specs.Bit.{has}
 use Rattle.bits.proofs.Truth.{both_true, and_no, never, clash, cond_first, cond_second}
 use Rattle.bits.proofs.FoundLaws.{Found, Missing}
-use Rattle.bits.proofs.SetLaws.{lowest_is, lowest_none, none_lowest, first_none, some_true, true_some}
+use Rattle.bits.proofs.SetLaws.{none_lowest, first_none, some_true, true_some}
 use Rattle.pack.specs.declared.check.Refusal.{Refusal}
 use Rattle.pack.specs.declared.line.Line.{Line}
 use Rattle.pack.specs.World.{World, Is, Obeys, Follows, line_at}
@@ -26,7 +25,7 @@ use Rattle.pack.proofs.QuestionLaws.{asked}
 use Rattle.pack.proofs.WorldLaws.{obeys_line, line_obeys}
 use Rattle.no.specs.declared.check.NoError.{NoError}
 use Rattle.no.specs.declared.check.NoError.TheVariants as no
-use Rattle.no.specs.NoSheet.{row_at, rows_of, forbidden, world_of}
+use Rattle.no.specs.NoSheet.{rows_of, forbidden, world_of}
 use Rattle.no.specs.Computed.{things_by, no_length_by, lowest_forbidden, lowest_broken, refutes, check_world, check_rows, no_after, check_no}
 
 -- a length that is a multiple of 8 · (1 + m) is that of its things' rows

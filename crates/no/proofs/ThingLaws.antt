@@ -4,7 +4,7 @@ use mathlib.Core.Bool.{Bool, true, false, cond, not, ◌&&◌, ◌||◌}
 use mathlib.Core.List.{List, [], ◌∷◌}
 use Prim.Native.Nat.{ℕ, zero, suc, ◌+◌, ◌-◌, ◌^◌, ◌≤◌, ◌<◌}
 use native.Mathlib.Decide.{ℕ_discrete, dec_lt}
-use native.Mathlib.Omega.{arith, by_contra}
+use native.Mathlib.Omega.{arith}
 use lib.Bits.{bit_and}
 use lib.Dec.{eqb}
 use Rattle.std.specs.Prelude.{filter}
@@ -13,8 +13,8 @@ use Rattle.std.specs.Iterator.{Yields, CallableAtEachTurn}
 use borrow.Author.Tests.{eq-eqb, ne_eqb, eqb-true, eqb-false, not-true, not-false}
 use Rattle.bits.specs.Bit.{has}
 use Rattle.bits.specs.Sets.{lowest, every, some}
-use Rattle.bits.proofs.Truth.{both_true, true_both, or_elim, or_left, or_right, and_no, alike, never, is_no}
-use Rattle.bits.proofs.SetLaws.{Lowest, lowest_is, lowest_at, every_true, true_every, every_false, some_true, true_some, some_false}
+use Rattle.bits.proofs.Truth.{both_true, true_both, or_elim, or_left, or_right, alike, never, is_no}
+use Rattle.bits.proofs.SetLaws.{lowest_at, every_true, true_every, some_true, true_some, some_false}
 use Rattle.bits.specs.Walk.{WalkStep}
 use Rattle.bits.proofs.FoundLaws.{found}
 use Rattle.bits.proofs.BitLaws.{meets_none, none_meets, contained, contains}

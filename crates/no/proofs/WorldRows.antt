@@ -1,6 +1,6 @@
 -- Laws of the world that the rows of a sheet describe.
 use mathlib.Core.Path.{◌≡◌, sym, ap, ◌∙◌}
-use mathlib.Core.Bool.{Bool, true, false, ◌&&◌}
+use mathlib.Core.Bool.{Bool, true, ◌&&◌}
 use mathlib.Core.List.{List}
 use Prim.Native.Nat.{ℕ, suc, ◌+◌, ◌*◌, ◌≤◌, ◌<◌}
 use native.Mathlib.Decide.{dec_lt}
@@ -10,7 +10,7 @@ use lib.Dec.{leb}
 use borrow.Author.Tests.{lt-ltb, le-ltb, le-leb}
 use Rattle.bits.specs.Bit.{has}
 use Rattle.bits.specs.Sets.{every, some}
-use Rattle.bits.proofs.Truth.{and_no, true_both, never, is_no}
+use Rattle.bits.proofs.Truth.{and_no, true_both, never}
 use Rattle.bits.proofs.SetLaws.{every_same, lowest_none, true_some}
 use Rattle.pack.specs.Computed.{implies}
 use Rattle.pack.proofs.WorldLaws.{true_implies}

@@ -10,6 +10,7 @@ use crate::check::NoError;
 use pack::bytes::read_word;
 
 // Row i of the sheet.
+#[tactic(auto, using(pack::proofs::Parts::cut), unfolding(crate::specs::NoSheet::row_at))]
 pub fn row_at(sheet: &[u8], i: usize) -> u64
     requires { i < length sheet.now / 8 }
     ensures { result ≡ row_at sheet.now i }

@@ -76,6 +76,7 @@ impl<'a> World<'a> {
     }
 
     // Does thing x obey the line?
+    #[tactic(auto, using(bits::proofs::BitLaws::low), unfolding(pack::specs::Computed::obeys_at))]
     fn thing_obeys(&self, l: Line, column: u64, x: usize) -> bool
         requires { ValidLine self.now.concepts self.now.roles l × ColumnFor (world_of self.now.things self.now.sheet.now) l column × (x < self.now.things) }
         ensures { result ≡ obeys_at (world_of self.now.things self.now.sheet.now) l x }

@@ -1,8 +1,7 @@
 -- `check_taken`: test by test, as the definition goes; the rows of a sheet of right length are those of its things (`rows_fit`).
-use mathlib.Core.Path.{sym, ap, ◌∙◌}
+use mathlib.Core.Path.{sym, ◌∙◌}
 use native.Mathlib.Omega.{arith}
 use borrow.Author.Tests.{lt-ltb}
-use Rattle.std.specs.Prelude.{Err}
 use Rattle.std.proofs.lemmas.Result.{err_from_is_err_and}
 use Rattle.pack.proofs.QuestionLaws.{asked}
 use Rattle.no.specs.Computed.{check_no, check_rows, check_world}

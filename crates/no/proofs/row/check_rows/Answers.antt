@@ -7,7 +7,6 @@ use borrow.Author.Tests.{lt-ltb, le-ltb}
 use Rattle.bits.proofs.SetLaws.{none_lowest}
 use Rattle.no.specs.NoSheet.{rows_of, forbidden}
 use Rattle.no.specs.Computed.{lowest_forbidden}
-use Rattle.no.specs.declared.check.NoError.TheVariants.{Row}
 use Rattle.no.proofs.ThingLaws.{lowest_first}
 use Rattle.no.proofs.row.check_rows.Goals as goal
 use Rattle.no.proofs.row.check_rows.Goals.{After-past_limit, then-i-k, else-i-k}

@@ -1,6 +1,5 @@
 -- `past_limit`: the search from the limit on ends below 64 exactly where some bit from there on is set (`lowest_past`).
-use mathlib.Core.Path.{ap, ◌∙◌}
-use Prim.Native.Nat.{ℕ}
+use mathlib.Core.Path.{◌∙◌}
 use Rattle.bits.proofs.FoundLaws.{some_below}
 use Rattle.bits.proofs.SetLaws.{lowest_past}
 use Rattle.no.proofs.row.past_limit.Goals as goal

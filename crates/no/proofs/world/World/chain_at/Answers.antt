@@ -1,6 +1,6 @@
 -- `chain_at`: the set bits of the one row are things (`link_below`); `all` over them tests each as the definition does
 -- (`list_filter`, `list_every`), over the 64 bits or the k things (`every_things`).
-use mathlib.Core.Path.{◌≡◌, ap, ◌∙◌}
+use mathlib.Core.Path.{◌≡◌, ◌∙◌}
 use mathlib.Core.Bool.{Bool, true}
 use Prim.Native.Nat.{ℕ, ◌+◌, ◌*◌, ◌<◌}
 use native.Mathlib.Omega.{arith}

@@ -1,5 +1,5 @@
 -- `column_of`: before thing y the column has the things below y that are in a; y adds its own bit (`column_on`).
-use mathlib.Core.Path.{◌≡◌, ap, ◌∙◌}
+use mathlib.Core.Path.{ap, ◌∙◌}
 use Prim.Native.Nat.{ℕ}
 use native.Mathlib.Omega.{arith}
 use borrow.Author.Tests.{le-ltb}

@@ -1,14 +1,12 @@
 -- `refutes`: `any` over the things tests each as the definition does (`any_below`).
-use mathlib.Core.Path.{◌≡◌, ◌∙◌}
+use mathlib.Core.Path.{◌∙◌}
 use mathlib.Core.Bool.{not, ◌&&◌}
-use Prim.Native.Nat.{ℕ}
 use native.Mathlib.Nat.{sub-zero}
 use borrow.Author.Tests.{tests}
 use Rattle.std.proofs.Common.{rules}
 use Rattle.std.proofs.lemmas.Iterator.{YieldsList-from_range}
 use Rattle.std.proofs.lemmas.Iterator.Search.{any_from_yields_List}
 use Rattle.bits.specs.Bit.{has}
-use Rattle.bits.proofs.BitLaws.{low}
 use Rattle.no.specs.NoSheet.{row_at}
 use Rattle.no.specs.Computed.{refutes}
 use Rattle.no.proofs.ThingLaws.{list_some}

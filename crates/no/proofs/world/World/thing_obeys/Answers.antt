@@ -1,22 +1,12 @@
--- `thing_obeys`: variant by variant, on whole rows: a test of 64 bits says what the world says of its k things
+-- `thing_obeys`: where a variant needs more than a bit of a row, a test of 64 bits says what the world says of its k things
 -- (`meets_things`, `inside_things`, `chain_things`).
 use mathlib.Core.Path.{ap, ◌∙◌}
 use mathlib.Core.Bool.{Bool}
-use native.Mathlib.Omega.{arith}
 use Rattle.bits.specs.Bit.{has}
-use Rattle.bits.proofs.BitLaws.{low}
 use Rattle.pack.specs.Computed.{implies, obeys_at}
 use Rattle.no.specs.NoSheet.{row_at}
 use Rattle.no.proofs.WorldRows.{meets_things, inside_things, chain_things}
 use Rattle.no.proofs.world.World.thing_obeys.Goals as goal
-
-pub returns-in-Under : goal.returns-in-Under
-unfolding obeys_at
-returns-in-Under c = rw c.in-Under.is (rw c.row.ensures at c.row_under.ensures)
-
-pub returns-in-BothUnder : goal.returns-in-BothUnder
-unfolding obeys_at
-returns-in-BothUnder c = rw c.in-BothUnder.is (rw c.row-in-BothUnder.ensures at c.row_both.ensures)
 
 pub returns-in-UnderSome : goal.returns-in-UnderSome
 unfolding obeys_at
@@ -50,9 +40,3 @@ returns-in-ChainUnder c =
     let w = c.args.self.now in
     let fits = rw c.in-ChainUnder.is at c.requires.0 in
     rw c.in-ChainUnder.is (c.chain_at.ensures ∙ chain_things _ _ _ _ w.few.1 w.clean _ _ _ fits.1)
-
-pub returns-in-ToItself : goal.returns-in-ToItself
-unfolding obeys_at
-returns-in-ToItself c =
-    let a = c.args in
-    rw c.in-ToItself.is (rw c.links_of-in-ToItself.ensures at (low _ a.x (omega (arith, a.self.now.few.1, c.requires.2)) c.test_bit.ensures))
