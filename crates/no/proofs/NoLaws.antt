@@ -141,7 +141,7 @@ module _ (n m : ℕ) (s ws : List ℕ) (a b : ℕ) (sheet : List ℕ) where
       let g = cond_first (refutes w a b) p.1 (λ q. clash cc) in
       let t = refuting w a b g.0 in
       let some = leb-true 1 k (both_true (leb 1 k) (leb k 64) (both_true (eqb (length sheet % (8 * (1 + m))) 0) (leb 1 k && leb k 64) l.0).1).0 in
-      never (f w some (none_broken w (lines_of s) (counted s ws) (ltb-false place (length (lines_of s)) p.0)) t.0 t.1 t.2) t.3
+      never {a = (world_of (things_by m sheet) sheet).is_in t.0 b} (f w some (none_broken w (lines_of s) (counted s ws) (ltb-false place (length (lines_of s)) p.0)) t.0 t.1 t.2) t.3
 
   -- A SHEET THAT KEEPS THE RULES IS ACCEPTED
   pub world_accepts : {c : ℕ} → check_question n m s ws a b ≡ Ok c → no_length_by m sheet ≡ true → ((i : ℕ) → i < rows_of m k → forbidden n k sheet i ≡ false) → Obeys w (lines_of s) (counted s ws) → (x : ℕ) → x < k → Is w x a → w.is_in x b ≡ false → check_no n m s ws a b sheet ≡ Ok tt

@@ -27,10 +27,10 @@ pub enum NoError {
 }
 
 impl From<Refusal> for NoError {
-    ghost from_gives = { λ why e. e ≡ Refused why };
+    ghost from_gives = { λ refusal e. e ≡ Refused refusal };
 
-    fn from(why: Refusal) -> NoError {
-        NoError::Refused(why)
+    fn from(refusal: Refusal) -> NoError {
+        NoError::Refused(refusal)
     }
 }
 
@@ -96,10 +96,10 @@ fn check_taken(q: &Taken, sheet: &[u8]) -> Result<(), NoError>
         sheet,
     };
     check_lines(q, &world)?;
-    if !world.refutes(q.a as u8, q.b as u8) {
-        return Err(NoError::NotShown);
+    if world.refutes(q.a as u8, q.b as u8) {
+        return Ok(());
     }
-    Ok(())
+    Err(NoError::NotShown)
 }
 
 // The no check, for any question and any bytes.

@@ -59,14 +59,14 @@ overflow_cast-q-2 c = let k = asked _ _ _ _ _ _ c.args.q.now.admitted in omega (
 pub refutes-requires : goal.refutes-requires
 refutes-requires c = let k = asked _ _ _ _ _ _ c.args.q.now.admitted in (omega (arith, k.pack.n_most, k.goal_a), omega (arith, k.pack.n_most, k.goal_b))
 
-pub returns-then-not-refutes : goal.returns-then-not-refutes
+pub returns-then-refutes : goal.returns-then-refutes
 unfolding check_no check_rows check_world
-returns-then-not-refutes c =
+returns-then-refutes c =
     let k = c.in_ok-things.ensures in
-    rw (c.args.q.now.admitted, k.1, ← k.0, not_below c.in_ok-check_rows.ensures, not_below c.in_ok-check_lines.ensures, sym c.refutes.ensures ∙ c.if-not-refutes.true)
+    rw (c.args.q.now.admitted, k.1, ← k.0, not_below c.in_ok-check_rows.ensures, not_below c.in_ok-check_lines.ensures, sym c.refutes.ensures ∙ c.if-refutes.true)
 
 pub returns : goal.returns
 unfolding check_no check_rows check_world
 returns c =
     let k = c.in_ok-things.ensures in
-    rw (c.args.q.now.admitted, k.1, ← k.0, not_below c.in_ok-check_rows.ensures, not_below c.in_ok-check_lines.ensures, sym c.refutes.ensures ∙ c.if-not-refutes.false)
+    rw (c.args.q.now.admitted, k.1, ← k.0, not_below c.in_ok-check_rows.ensures, not_below c.in_ok-check_lines.ensures, sym c.refutes.ensures ∙ c.if-refutes.false)
