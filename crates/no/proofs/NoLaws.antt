@@ -2,31 +2,42 @@
 use mathlib.Core.Path.{◌≡◌, refl, sym, ap, ◌∙◌}
 use mathlib.Core.Bool.{Bool, true, false, cond, not, ◌&&◌}
 use mathlib.Core.List.{List}
-use Prim.Native.Nat.{ℕ, ◌+◌, ◌*◌, ◌%◌, ◌≤◌, ◌<◌}
-use native.Mathlib.Nat.{mul_comm, mul_assoc, div-add-mod', zero-add}
+use Prim.Native.Nat.{ℕ, suc, ◌+◌, ◌*◌, ◌/◌, ◌%◌, ◌≤◌, ◌<◌}
+use native.Mathlib.Nat.{mul-add, mul-one, mul_comm, mul_assoc, suc-mul, mul-le-mul_right, mul-le-mul_left, mul-div_cancel, div-add-mod', zero-add}
 use native.Mathlib.Decide.{dec_lt}
 use native.Mathlib.Omega.{arith}
 use borrow.Author.Count.{below_more}
 use lib.Dec.{eqb, ltb, leb}
 use lib.ListN.{length}
-use borrow.Author.Tests.{eqb-true, le-ltb, ltb-false, leb-true, not-true, not-false}
-use Rattle.std.specs.Prelude.{Result, Ok, Err}
-use Rattle.bits.proofs.Truth.{both_true, and_no, never, clash, cond_first, cond_second}
-use Rattle.bits.proofs.FoundLaws.{Found, Missing}
-use Rattle.bits.proofs.SetLaws.{none_lowest, first_none, some_true, true_some}
+use borrow.Author.Tests.{eqb-true, le-ltb, ltb-false, leb-true, le-leb, not-true, not-false}
+use Rattle.std.specs.Prelude.{Some, None, Result, Ok, Err}
+use Rattle.bits.specs.Bit.{has}
+use Rattle.bits.specs.Sets.{lowest, found_below}
+use Rattle.bits.proofs.Truth.{both_true, true_both, and_no, never, is_no, clash, cond_first, cond_second}
+use Rattle.bits.proofs.FoundLaws.{Found, Missing, found_at, found_end}
+use Rattle.bits.proofs.SetLaws.{lowest_is, lowest_none, none_lowest, first_none, some_true, true_some}
 use Rattle.pack.specs.declared.check.Refusal.{Refusal}
 use Rattle.pack.specs.declared.line.Line.{Line}
+use Rattle.pack.specs.declared.line.Line.TheVariants.{Under, BothUnder, UnderSome, SomeUnder, RoleUnder, ChainUnder, ToItself, NoLine}
 use Rattle.pack.specs.World.{World, Is, Obeys, Follows, line_at}
 use Rattle.pack.specs.Computed.{obeys, check_question}
-use Rattle.pack.specs.Record.{lines_of, record_count}
+use Rattle.pack.specs.Record.{lines_of, record_count, ValidLine, Valid}
 use Rattle.pack.specs.Question.{counted}
 use Rattle.no.proofs.ThingLaws.{lowest_first}
 use Rattle.pack.proofs.QuestionLaws.{asked}
 use Rattle.pack.proofs.WorldLaws.{obeys_line, line_obeys}
 use Rattle.no.specs.declared.check.NoError.{NoError}
 use Rattle.no.specs.declared.check.NoError.TheVariants as no
-use Rattle.no.specs.NoSheet.{rows_of, forbidden, world_of}
+use Rattle.no.specs.Inner.{RoleFits, LineFits, LinesFit}
+use Rattle.no.specs.NoSheet.{row_at, rows_of, forbidden, world_of}
 use Rattle.no.specs.Computed.{things_by, no_length_by, lowest_forbidden, lowest_broken, refutes, check_world, check_rows, no_after, check_no}
+
+-- the rows: k, and k for each role
+rows_are : (m k : ℕ) → rows_of m k ≡ k + m * k
+rows_are m k = mul-add k 1 m ∙ rw (mul-one k, mul_comm k m)
+
+pub rows_few : (m k : ℕ) → m ≤ 8 → k ≤ 64 → rows_of m k ≤ 576
+rows_few m k h l = omega (arith, rows_are m k, mul-le-mul_left m l, mul_comm m k)
 
 -- a length that is a multiple of 8 · (1 + m) is that of its things' rows
 whole_rows : (m : ℕ) (sheet : List ℕ) → length sheet % (8 * (1 + m)) ≡ 0 → length sheet ≡ rows_of m (things_by m sheet) * 8
@@ -37,10 +48,65 @@ whole_rows m sheet e =
     omega arith
 
 -- a length that fits is that of at most 64 things
-pub rows_fit : (m : ℕ) (sheet : List ℕ) → no_length_by m sheet ≡ true → (things_by m sheet ≤ 64) × (length sheet ≡ rows_of m (things_by m sheet) * 8)
+pub rows_fit : (m : ℕ) (sheet : List ℕ) {k : ℕ} → (k ≡ things_by m sheet) × (no_length_by m sheet ≡ true) → (k ≤ 64) × (length sheet ≡ rows_of m k * 8)
 rows_fit m sheet h =
-    let p = both_true (eqb (length sheet % (8 * (1 + m))) 0) (leb 1 (things_by m sheet) && leb (things_by m sheet) 64) h in
-    (leb-true (things_by m sheet) 64 (both_true (leb 1 (things_by m sheet)) (leb (things_by m sheet) 64) p.1).1, whole_rows m sheet (eqb-true (length sheet % (8 * (1 + m))) 0 p.0))
+    let p = both_true (eqb (length sheet % (8 * (1 + m))) 0) (leb 1 (things_by m sheet) && leb (things_by m sheet) 64) h.1 in
+    rw h.0 (leb-true (things_by m sheet) 64 (both_true (leb 1 (things_by m sheet)) (leb (things_by m sheet) 64) p.1).1, whole_rows m sheet (eqb-true (length sheet % (8 * (1 + m))) 0 p.0))
+
+module _ (n m k : ℕ) (sheet : List ℕ) (whole : length sheet ≡ rows_of m k * 8) where
+  -- the search for a forbidden bit: the lowest row, or the end of the rows
+  rows_by : length sheet / 8 ≡ rows_of m k
+  rows_by = ap (λ (l : ℕ). l / 8) whole ∙ mul-div_cancel (rows_of m k) (omega arith)
+
+  pub row_found : {r : ℕ} → Some r ≡ found_below (length sheet / 8) (lowest (forbidden n k sheet) 0 (length sheet / 8)) → (lowest_forbidden n m k sheet ≡ r) × (r < rows_of m k)
+  unfolding lowest_forbidden
+  row_found e = found_at (sym (rw rows_by at e))
+
+  pub row_missing : None ≡ found_below (length sheet / 8) (lowest (forbidden n k sheet) 0 (length sheet / 8)) → lowest_forbidden n m k sheet ≡ rows_of m k
+  unfolding lowest_forbidden
+  row_missing e =
+      let past = found_end (sym (rw rows_by at e)) in
+      let w = (lowest_is (forbidden n k sheet) 0 (rows_of m k)).within in
+      omega (arith, zero-add (rows_of m k), past)
+
+  -- a role below m has its rows in the sheet
+  role_rows : (r : ℕ) → r < m → k + (r * k + k) ≤ rows_of m k
+  role_rows r h =
+      let l : suc r * k ≤ m * k = mul-le-mul_right k h in
+      omega (arith, rows_are m k, suc-mul r k)
+
+  pub things_fit : k ≤ length sheet / 8
+  things_fit = omega (arith, rows_are m k)
+
+  -- where no row has a forbidden bit, no link leaves the things
+  role_fits : lowest_forbidden n m k sheet ≡ rows_of m k → (r : ℕ) → r < m → RoleFits k sheet r
+  unfolding lowest_forbidden forbidden
+  role_fits e r h = record {
+    rows = omega (arith, role_rows r h);
+    inside = λ x y lx ly b. is_no (none x y lx ly b);
+  }
+    where
+      none : (x y : ℕ) → x < k → k ≤ y → y < 64 → has (row_at sheet (k + (r * k + x))) y ≡ true → ⊥
+      none x y lx ly b g =
+          let i = k + (r * k + x) in
+          let far : i < rows_of m k = omega (arith, role_rows r h) in
+          let clean = lowest_none (forbidden n k sheet) 0 (rows_of m k) (e ∙ sym (zero-add (rows_of m k))) i (omega arith) (omega arith) in
+          never
+          (rw (le-ltb i k (omega arith)) (true_some (λ j. leb k j && has (row_at sheet i) j) 64 y b (true_both (leb k y) (has (row_at sheet i) y) (le-leb k y ly) g)))
+          clean
+
+  line_fits : n ≤ 64 → lowest_forbidden n m k sheet ≡ rows_of m k → (l : Line) → ValidLine n m l → LineFits k sheet l
+  line_fits h e (Under a b) v = (omega arith, omega arith)
+  line_fits h e (BothUnder a₁ a₂ b) v = (omega arith, omega arith, omega arith)
+  line_fits h e (UnderSome a r b) v = (omega arith, role_fits e r v.1, omega arith)
+  line_fits h e (SomeUnder r a b) v = (role_fits e r v.0, omega arith, omega arith)
+  line_fits h e (RoleUnder r s) v = (role_fits e r v.0, role_fits e s v.1)
+  line_fits h e (ChainUnder r s t) v = (role_fits e r v.0, role_fits e s v.1, role_fits e t v.2)
+  line_fits h e (ToItself r) v = role_fits e r v
+  line_fits h e NoLine v = tt
+
+  pub lines_fit : n ≤ 64 → lowest_forbidden n m k sheet ≡ rows_of m k → (ls : List Line) → Valid n m ls → LinesFit k sheet ls
+  lines_fit h e ls v i l = line_fits h e (line_at ls i) (v i l)
 
 -- a place that counts is that of a record
 pub counted_below : (n m : ℕ) (s ws : List ℕ) (a b : ℕ) → check_question n m s ws a b ≡ Ok (record_count s) → (i : ℕ) → counted s ws i ≡ true → i < record_count s

@@ -76,7 +76,7 @@ module _ (m : ℕ) (sheet : List ℕ) where
           (true_both (leb 1 (things_by m sheet)) (leb (things_by m sheet) 64) (le-leb 1 (things_by m sheet) (omega arith)) (le-leb (things_by m sheet) 64 (omega arith)))) h
 
   things_few : no_length_by m sheet ≡ true → 64 < things_by m sheet → ⊥
-  things_few h l = omega (arith, (rows_fit m sheet h).0)
+  things_few h l = omega (arith, (rows_fit m sheet (refl, h)).0)
 
 -- an answer is told by its number and place
 pub no_told_by : (x y : Result (Unit {0}) NoError) → no_number x ≡ no_number y → no_place x ≡ no_place y → x ≡ y

@@ -4,19 +4,20 @@ use mathlib.Core.Bool.{Bool, true, false, cond, not, ◌&&◌, ◌||◌}
 use mathlib.Core.List.{List, [], ◌∷◌}
 use Prim.Native.Nat.{ℕ, zero, suc, ◌+◌, ◌-◌, ◌^◌, ◌≤◌, ◌<◌}
 use native.Mathlib.Decide.{ℕ_discrete, dec_lt}
+use native.Mathlib.Nat.{zero-add}
 use native.Mathlib.Omega.{arith}
 use lib.Bits.{bit_and}
 use lib.Dec.{eqb}
-use Rattle.std.specs.Prelude.{filter}
+use Rattle.std.specs.Prelude.{filter, Option, Some, None, MatchOption}
 use Rattle.std.specs.List.{range_with_len, list_all, list_any, FoldsTo}
 use Rattle.std.specs.Iterator.{Yields, CallableAtEachTurn}
 use borrow.Author.Tests.{eq-eqb, ne_eqb, eqb-true, eqb-false, not-true, not-false}
 use Rattle.bits.specs.Bit.{has}
-use Rattle.bits.specs.Sets.{lowest, every, some}
+use Rattle.bits.specs.Sets.{lowest, found_below, every, some}
 use Rattle.bits.proofs.Truth.{both_true, true_both, or_elim, or_left, or_right, alike, never, is_no}
-use Rattle.bits.proofs.SetLaws.{lowest_at, every_true, true_every, some_true, true_some, some_false}
+use Rattle.bits.proofs.SetLaws.{none_lowest, lowest_at, every_true, true_every, some_true, true_some, some_false}
 use Rattle.bits.specs.Walk.{WalkStep}
-use Rattle.bits.proofs.FoundLaws.{found}
+use Rattle.bits.proofs.FoundLaws.{found, at_found, end_found}
 use Rattle.bits.proofs.BitLaws.{meets_none, none_meets, contained, contains}
 use Rattle.pack.specs.Computed.{implies}
 use Rattle.pack.proofs.WorldLaws.{implies_true, true_implies}
@@ -97,6 +98,12 @@ module _ {S K : Type 0} (c : ℕ) (set : K → ℕ → Bool) (holds : S → K) (
 pub lowest_first : (p : ℕ → Bool) (c i : ℕ) → i < c → ((j : ℕ) → j < i → p j ≡ false) → p i ≡ true → lowest p 0 c ≡ i
 lowest_first p c i l none found =
     sym (lowest_at p (record { from = omega arith; within = omega arith; none = λ j g h. none j h; found = λ h. found }))
+
+-- and the one that `find` gives
+pub found_first : (p : ℕ → Bool) (c : ℕ) (r : Option ℕ)
+    → MatchOption r ((j : ℕ) → 0 ≤ j → j < c → p j ≡ false) (λ i. (0 ≤ i) × (i < c) × (p i ≡ true) × ((j : ℕ) → 0 ≤ j → j < i → p j ≡ false)) → r ≡ found_below c (lowest p 0 c)
+found_first p c None f = sym (end_found (omega (arith, none_lowest p 0 c (λ j g l. f j g (omega (arith, zero-add c))), zero-add c)))
+found_first p c (Some i) f = let e : lowest p 0 c ≡ i = lowest_first p c i f.1 (λ j l. f.3 j (omega arith) l) f.2 in rw e (sym (at_found f.1))
 
 -- two words meet
 pub meet : (x y : ℕ) → x < 2 ^ 64 → not (eqb (bit_and x y) 0) ≡ some 64 (λ j. has x j && has y j)

@@ -5,9 +5,10 @@ ghost use Rattle.pack.specs.Question.{counted};
 ghost use Rattle.no.specs.declared.check.NoError.TheVariants.{Refused, Length, Broken};
 ghost use Rattle.no.specs.NoSheet.{world_of};
 ghost use Rattle.no.specs.Computed.{things_by, no_length_by, lowest_broken, check_no};
+ghost use Rattle.no.specs.Inner.{LinesFit};
 ghost use Rattle.no.specs.Answers.{no_told, no_error_told, GivesNo};
 
-use crate::row::check_rows;
+use crate::row::lowest_forbidden;
 use crate::world::World;
 use marks::look::places;
 use pack::check::Refusal;
@@ -72,7 +73,7 @@ fn count_things(m: usize, sheet: &[u8]) -> Result<usize, NoError>
 
 // Does the world obey the line at each place that counts? If not, the lowest that it breaks.
 fn check_lines(q: &Taken, world: &World) -> Result<(), NoError>
-    requires { (world.now.concepts ≡ q.now.n) × (world.now.roles ≡ q.now.m) }
+    requires { LinesFit world.now.things world.now.sheet.now (lines_of q.now.pack.now) }
     ensures { let ls = lines_of q.now.pack.now in let place = lowest_broken (world_of world.now.things world.now.sheet.now) ls (counted q.now.pack.now q.now.marks.now) in MatchResult result (λ _. place ≡ length ls) (λ e. (e ≡ Broken place) × (place < length ls)) }
 {
     for place in places(q.marks) {
@@ -88,13 +89,10 @@ fn check_taken(q: &Taken, sheet: &[u8]) -> Result<(), NoError>
     ensures { result ≡ check_no q.now.n q.now.m q.now.pack.now q.now.marks.now q.now.a q.now.b sheet.now }
 {
     let things = count_things(q.m, sheet)?;
-    check_rows(q.n, q.m, things, sheet)?;
-    let world = World {
-        concepts: q.n,
-        roles: q.m,
-        things,
-        sheet,
-    };
+    if let Some(row) = lowest_forbidden(sheet, q.n, things) {
+        return Err(NoError::Row(row as u32));
+    }
+    let world = World { things, sheet };
     check_lines(q, &world)?;
     if world.refutes(q.a as u8, q.b as u8) {
         return Ok(());

@@ -1,12 +1,9 @@
-// The rows of a no sheet: one read, and the test that none has a forbidden bit.
-ghost use Rattle.std.specs.Prelude.{◌≡◌, ◌&&◌, ◌*◌, ◌<◌, ◌≤◌, ◌/◌, leb, length, MatchResult};
+// The rows of a no sheet: one read, and the lowest with a forbidden bit.
+ghost use Rattle.std.specs.Prelude.{◌≡◌, ◌&&◌, ◌*◌, ◌<◌, ◌/◌, leb, length};
 ghost use Rattle.bits.specs.Bit.{has};
-ghost use Rattle.bits.specs.Sets.{some};
-ghost use Rattle.no.specs.NoSheet.{row_at, rows_of};
-ghost use Rattle.no.specs.Computed.{lowest_forbidden};
-ghost use Rattle.no.specs.declared.check.NoError.TheVariants.{Row};
+ghost use Rattle.bits.specs.Sets.{lowest, found_below, some};
+ghost use Rattle.no.specs.NoSheet.{row_at, forbidden};
 
-use crate::check::NoError;
 use pack::bytes::read_word;
 
 // Row i of the sheet.
@@ -27,19 +24,18 @@ fn past_limit(word: u64, limit: usize) -> bool
     bits::next_bit(word, limit).is_some()
 }
 
-// ROW at the lowest row with a forbidden bit: at or above n in the first k rows, at or above k in the others.
-pub fn check_rows(n: usize, m: usize, k: usize, sheet: &[u8]) -> Result<(), NoError>
-    requires { (m ≤ 8) × (k ≤ 64) × (length sheet.now ≡ rows_of m k * 8) }
-    ensures { MatchResult result
-        (λ _. lowest_forbidden n m k sheet.now ≡ rows_of m k)
-        (λ e. (e ≡ Row (lowest_forbidden n m k sheet.now)) × (lowest_forbidden n m k sheet.now < rows_of m k)) }
+// Does row i have a forbidden bit: at or above n in the first k rows, at or above k in the others?
+fn row_forbidden(sheet: &[u8], i: usize, n: usize, k: usize) -> bool
+    requires { i < length sheet.now / 8 }
+    ensures { result ≡ forbidden n k sheet.now i }
 {
-    let rows = k * (1 + m);
-    for i in 0..rows {
-        let limit = if i < k { n } else { k };
-        if past_limit(row_at(sheet, i), limit) {
-            return Err(NoError::Row(i as u32));
-        }
-    }
-    Ok(())
+    let limit = if i < k { n } else { k };
+    past_limit(row_at(sheet, i), limit)
+}
+
+// The lowest row with a forbidden bit, where there is one.
+pub fn lowest_forbidden(sheet: &[u8], n: usize, k: usize) -> Option<usize>
+    ensures { let rows = length sheet.now / 8 in result ≡ found_below rows (lowest (forbidden n k sheet.now) 0 rows) }
+{
+    (0..sheet.len() / 8).find(|i| row_forbidden(sheet, *i, n, k))
 }

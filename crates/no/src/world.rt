@@ -1,28 +1,24 @@
 // The world of a no sheet: a line and the goal are tested thing by thing, on whole rows.
-ghost use Rattle.std.specs.Prelude.{◌≡◌, ◌+◌, ◌*◌, ◌≤◌, ◌<◌, length};
+ghost use Rattle.std.specs.Prelude.{◌≡◌, ◌+◌, ◌*◌, ◌/◌, ◌≤◌, ◌<◌, length};
 ghost use Rattle.bits.specs.Bit.{has};
 ghost use Rattle.bits.specs.Sets.{every};
 ghost use Rattle.pack.specs.Computed.{implies, obeys_at, obeys};
-ghost use Rattle.pack.specs.Record.{ValidLine};
-ghost use Rattle.no.specs.NoSheet.{row_at, rows_of, world_of};
-ghost use Rattle.no.specs.Computed.{lowest_forbidden, refutes};
-ghost use Rattle.no.specs.Inner.{ThingsColumn, ColumnFor};
+ghost use Rattle.no.specs.NoSheet.{row_at, world_of};
+ghost use Rattle.no.specs.Computed.{refutes};
+ghost use Rattle.no.specs.Inner.{ThingsColumn, ColumnFor, RoleFits, LineFits};
 
 use crate::row::row_at;
 use crate::thing::{row_both, row_inside, row_some_under, row_under, row_under_some};
 use pack::line::Line;
 
 // So many things, and the sheet of their rows: first the concepts that each is in, then the things that each is linked to,
-// role by role. No row has a forbidden bit.
+// role by role.
 #[derive(Clone, Copy)]
 pub struct World<'a> {
-    pub concepts: usize,
-    pub roles: usize,
     pub things: usize,
     pub sheet: &'a [u8],
-    ghost few: { (concepts ≤ 64) × (things ≤ 64) },
-    ghost whole: { length sheet.now ≡ rows_of roles things * 8 },
-    ghost clean: { lowest_forbidden concepts roles things sheet.now ≡ rows_of roles things },
+    ghost few: { things ≤ 64 },
+    ghost rows: { things ≤ length sheet.now / 8 },
 }
 
 impl<'a> World<'a> {
@@ -36,7 +32,7 @@ impl<'a> World<'a> {
 
     // The things that x is linked to by r.
     fn links_of(&self, x: usize, r: u8) -> u64
-        requires { (x < self.now.things) × (r < self.now.roles) }
+        requires { RoleFits self.now.things self.now.sheet.now r × (x < self.now.things) }
         ensures { result ≡ row_at self.now.sheet.now (self.now.things + (r * self.now.things + x)) }
     {
         row_at(self.sheet, self.things + (r as usize * self.things + x))
@@ -56,7 +52,7 @@ impl<'a> World<'a> {
 
     // The column that a line needs.
     fn column_for(&self, l: Line) -> u64
-        requires { ValidLine self.now.concepts self.now.roles l }
+        requires { LineFits self.now.things self.now.sheet.now l }
         ensures { ColumnFor (world_of self.now.things self.now.sheet.now) l result }
     {
         match l {
@@ -68,7 +64,7 @@ impl<'a> World<'a> {
 
     // Kind 6 at thing x: each thing y that x is linked to by r has all its links by s among those of x by t.
     fn chain_at(&self, x: usize, r: u8, s: u8, t: u8) -> bool
-        requires { (x < self.now.things) × (r < self.now.roles) × (s < self.now.roles) × (t < self.now.roles) }
+        requires { let rows = self.now.sheet.now in RoleFits self.now.things rows r × RoleFits self.now.things rows s × RoleFits self.now.things rows t × (x < self.now.things) }
         ensures { let k = self.now.things in let rows = self.now.sheet.now in result ≡ every k (λ y. implies (has (row_at rows (k + (r * k + x))) y) (every 64 (λ z. implies (has (row_at rows (k + (s * k + y))) z) (has (row_at rows (k + (t * k + x))) z)))) }
     {
         let whole = self.links_of(x, t);
@@ -78,7 +74,7 @@ impl<'a> World<'a> {
     // Does thing x obey the line?
     #[tactic(auto, using(bits::proofs::BitLaws::low), unfolding(pack::specs::Computed::obeys_at))]
     fn thing_obeys(&self, l: Line, column: u64, x: usize) -> bool
-        requires { ValidLine self.now.concepts self.now.roles l × ColumnFor (world_of self.now.things self.now.sheet.now) l column × (x < self.now.things) }
+        requires { LineFits self.now.things self.now.sheet.now l × ColumnFor (world_of self.now.things self.now.sheet.now) l column × (x < self.now.things) }
         ensures { result ≡ obeys_at (world_of self.now.things self.now.sheet.now) l x }
     {
         match l {
@@ -99,7 +95,7 @@ impl<'a> World<'a> {
 
     // Does every thing obey the line?
     pub fn obeys(&self, l: Line) -> bool
-        requires { ValidLine self.now.concepts self.now.roles l }
+        requires { LineFits self.now.things self.now.sheet.now l }
         ensures { result ≡ obeys (world_of self.now.things self.now.sheet.now) l }
     {
         let column = self.column_for(l);

@@ -1,5 +1,5 @@
--- `check_lines`: a place that counts is that of a record (`counted_below`), and its line, valid (`asked_valid`), is that of the
--- list (`line_read`); no place before it is broken (`passed`).
+-- `check_lines`: a place that counts is that of a record (`counted_below`), and its line is that of the list
+-- (`line_read`); no place before it is broken (`passed`).
 use mathlib.Core.Path.{◌≡◌, refl, sym, ap, ◌∙◌}
 use mathlib.Core.Bool.{true, false}
 use Prim.Native.Nat.{◌<◌}
@@ -9,7 +9,7 @@ use Rattle.pack.specs.Computed.{obeys}
 use Rattle.pack.specs.Question.{counted}
 use Rattle.pack.specs.Record.{lines_of, record_count}
 use Rattle.pack.proofs.RecordLaws.{lines_length, line_read}
-use Rattle.pack.proofs.QuestionLaws.{asked, asked_valid}
+use Rattle.pack.proofs.QuestionLaws.{asked}
 use Rattle.no.specs.NoSheet.{world_of}
 use Rattle.no.specs.Computed.{lowest_broken}
 use Rattle.no.proofs.NoLaws.{counted_below, passed, passed_on, passed_all, broken_first}
@@ -22,7 +22,7 @@ pub obeys-requires : goal.obeys-requires
 obeys-requires c =
     let q = c.args.q.now in
     let l : c.in-Some.place < record_count q.pack.now = counted_below _ _ _ _ _ _ q.admitted _ (turn c.in-Some.ensures.steps c.loop-place.invariant.0).found.here in
-    rw (c.requires.0, c.requires.1, ← line_read q.pack.now c.in-Some.place l c.line_at.ensures) (asked_valid _ _ _ _ _ _ q.admitted c.in-Some.place (omega (arith, lines_length q.pack.now)))
+    rw (← line_read q.pack.now c.in-Some.place l c.line_at.ensures) (c.requires c.in-Some.place (omega (arith, lines_length q.pack.now)))
 
 pub returns-then-not-obeys : goal.returns-then-not-obeys
 returns-then-not-obeys c =
@@ -32,8 +32,8 @@ returns-then-not-obeys c =
     let l : c.in-Some.place < record_count q.pack.now = counted_below _ _ _ _ _ _ q.admitted _ t.found.here in
     let broken : obeys w c.line_at.result ≡ false = sym c.obeys.ensures ∙ c.if-not-obeys.true in
     let e : lowest_broken w (lines_of q.pack.now) (counted q.pack.now q.marks.now) ≡ c.in-Some.place =
-        broken_first w _ _ c.in-Some.place (omega (arith, lines_length q.pack.now)) (passed w _ _ c.loop-place.invariant.1 t.found) t.found.here
-        (ap (obeys w) (line_read q.pack.now c.in-Some.place l c.line_at.ensures) ∙ broken) in
+    broken_first w _ _ c.in-Some.place (omega (arith, lines_length q.pack.now)) (passed w _ _ c.loop-place.invariant.1 t.found) t.found.here
+    (ap (obeys w) (line_read q.pack.now c.in-Some.place l c.line_at.ensures) ∙ broken) in
     rw e (refl, omega (arith, lines_length q.pack.now))
 
 pub loop-place-preserved : goal.loop-place-preserved

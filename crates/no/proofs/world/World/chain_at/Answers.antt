@@ -26,9 +26,9 @@ all-requires-clause-callable c =
     let w = a.self.now in
     walk_serves 64 has (λ s. s.word) (λ s. s.from) _ _ _ _ (λ p x q h. search rules)
     (λ x l b.
-        let bit : has c.ones.result.word x ≡ true = b in
-        let below : x < w.things = link_below _ _ _ _ w.few.1 w.clean a.r a.x x c.requires.1 c.requires.0 l (rw (c.ones.ensures, c.links_of.ensures) at bit) in
-        search rules)
+    let bit : has c.ones.result.word x ≡ true = b in
+    let below : x < w.things = link_below _ _ a.r a.x x c.requires.0 c.requires.3 l (rw (c.ones.ensures, c.links_of.ensures) at bit) in
+    search rules)
 
 pub returns : goal.returns
 returns c =
@@ -38,7 +38,7 @@ returns c =
     let first : ℕ → Bool = has (row_at w.sheet.now (k + (a.r * k + a.x))) in
     let test : ℕ → Bool = λ y. every 64 (λ z. implies (has (row_at w.sheet.now (k + (a.s * k + y))) z) (has (row_at w.sheet.now (k + (a.t * k + a.x))) z)) in
     let told : c.all.result ≡ list_all test (walk_left 64 has (λ s. s.word) (λ s. s.from) c.ones.result) =
-        all_from_yields_List test _ _ _ c.all.ensures.ran (walk_list 64 has (λ s. s.word) (λ s. s.from) c.ones.result) (λ x b q h. search (rules, tests)) in
+    all_from_yields_List test _ _ _ c.all.ensures.ran (walk_list 64 has (λ s. s.word) (λ s. s.from) c.ones.result) (λ x b q h. search (rules, tests)) in
     let set : c.all.result ≡ list_all test (filter first (range_with_len 0 64)) = rw (c.ones.ensures, c.links_of.ensures) at told in
     set ∙ list_filter first test (range_with_len 0 64) ∙ list_every _ 64
-    ∙ every_things (λ y. implies (first y) (test y)) k w.few.1 (λ j h l. true_implies (first j) (test j) (λ t. absurd (omega (arith, link_below _ _ _ _ w.few.1 w.clean a.r a.x j c.requires.1 c.requires.0 l t))))
+    ∙ every_things (λ y. implies (first y) (test y)) k w.few (λ j h l. true_implies (first j) (test j) (λ t. absurd (omega (arith, link_below _ _ a.r a.x j c.requires.0 c.requires.3 l t))))

@@ -16,4 +16,4 @@ pub loop-y-preserved : goal.loop-y-preserved
 loop-y-preserved c =
     let a = c.args in
     let w = a.self.now in
-    column_on (λ j. has (row_at w.sheet.now j) a.a) _ _ c.loop-y.y (ap (λ (v : ℕ). has v a.a) c.row.ensures) c.loop-y.invariant (column_bits _ _ _ _ c.requires (omega (arith, w.few.1)) c.column_with-column.ensures)
+    column_on (λ j. has (row_at w.sheet.now j) a.a) _ _ c.loop-y.y (ap (λ (v : ℕ). has v a.a) c.row.ensures) c.loop-y.invariant (column_bits _ _ _ _ c.requires (omega (arith, w.few)) c.column_with-column.ensures)
