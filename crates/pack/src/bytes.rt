@@ -1,6 +1,6 @@
 // Words in 8 bytes, the low byte first: read and written.
 ghost use Rattle.std.specs.Prelude.{◌≡◌, ◌+◌, ◌*◌, ◌≤◌, length};
-ghost use Rattle.pack.specs.Bytes.{word_in, word_bytes, words_in, words_bytes};
+ghost use Rattle.pack.specs.Bytes.{word_in, word_bytes, words_in, words_bytes, marks_in};
 
 // The number of two bytes, as a place.
 pub fn two_bytes(lo: u8, hi: u8) -> usize
@@ -51,4 +51,15 @@ pub fn write_marks(words: &[u64; 16], out: &mut [u8])
         let end = at + 8;
         write_word(&mut out[at..end], words[j]);
     }
+}
+
+// The words of marks that came as bytes, in an array that the caller lends: all 16, or none where the bytes are not 128.
+pub fn marks_from<'w>(s: &[u8], words: &'w mut [u64; 16]) -> &'w [u64]
+    ensures { result.now ≡ marks_in s.now }
+{
+    if s.len() != 128 {
+        return &[];
+    }
+    *words = read_marks(s);
+    words
 }

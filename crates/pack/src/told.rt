@@ -1,5 +1,5 @@
 // What an answer tells: the number of document 01's table, 0 where nothing is refused, and the value that comes with it.
-ghost use Rattle.std.specs.Prelude.{◌≡◌, ℕ, ◌<◌, ◌^◌};
+ghost use Rattle.std.specs.Prelude.{◌≡◌, ℕ, ◌+◌, ◌*◌, ◌<◌, ◌≤◌, ◌^◌};
 ghost use Rattle.pack.specs.Answers.{answer_told, count_told, nothing_told};
 
 pub trait Told {
@@ -55,4 +55,12 @@ impl<A: Told, E: Told> Told for Result<A, E> {
             Err(why) => why.value(),
         }
     }
+}
+
+// The number and the value in one, for C: the value stands above the number, which is below the base.
+pub fn coded<const BASE: u64, A: Told>(answer: &A) -> u64
+    requires { BASE ≤ 256 }
+    ensures { result ≡ (A.told answer.now).0 + BASE * (A.told answer.now).1 }
+{
+    answer.number() as u64 + BASE * answer.value()
 }
