@@ -1,12 +1,13 @@
-// The two checks as C calls them: numbers and byte slices, the marks as 128 bytes. What C links is in sheets_c.
+// The two checks as C calls them: numbers and byte slices, the marks as 128 bytes. What comes back is a number of document 01's
+// table plus 16 times the place, step or row. What C links is in sheets_c.
 ghost use Rattle.std.specs.Prelude.{◌/◌, ◌%◌};
 ghost use Rattle.pack.specs.Bytes.{marks_in};
 ghost use Rattle.yes.specs.Answers.{GivesYes};
 ghost use Rattle.no.specs.Answers.{GivesNo};
 
-use crate::code::{no_code, yes_code};
 use no::check::check_no;
-use pack::bytes::read_marks;
+use pack::question::Question;
+use pack::told::coded;
 use yes::check::check_yes;
 
 // The yes check for C.
@@ -21,16 +22,9 @@ pub fn noolukask_check_yes<'a>(
 ) -> u64
     ensures { GivesYes n m pack.now (marks_in marks.now) a b sheet.now (result % 16) (result / 16) }
 {
-    if marks.len() == 128 {
-        let words = read_marks(marks);
-        return yes_code(check_yes(
-            n as usize, m as usize, pack, &words, a as usize, b as usize, sheet,
-        ));
-    }
-    let none = [0u64; 0];
-    yes_code(check_yes(
-        n as usize, m as usize, pack, &none, a as usize, b as usize, sheet,
-    ))
+    let mut words = [0; 16];
+    let q = Question::from_c(n, m, pack, marks, &mut words, a, b);
+    coded::<16, _>(&check_yes(&q, sheet))
 }
 
 // The no check for C.
@@ -45,14 +39,7 @@ pub fn noolukask_check_no<'a>(
 ) -> u64
     ensures { GivesNo n m pack.now (marks_in marks.now) a b sheet.now (result % 16) (result / 16) }
 {
-    if marks.len() == 128 {
-        let words = read_marks(marks);
-        return no_code(check_no(
-            n as usize, m as usize, pack, &words, a as usize, b as usize, sheet,
-        ));
-    }
-    let none = [0u64; 0];
-    no_code(check_no(
-        n as usize, m as usize, pack, &none, a as usize, b as usize, sheet,
-    ))
+    let mut words = [0; 16];
+    let q = Question::from_c(n, m, pack, marks, &mut words, a, b);
+    coded::<16, _>(&check_no(&q, sheet))
 }
