@@ -4,5 +4,6 @@ use Rattle.sheets.proofs.calls.noolukask_check_yes.Goals as goal
 
 pub returns : goal.returns
 returns c =
-    let q = c.from_c-q.ensures in
-    yes_coded _ _ _ _ _ _ _ c.check_yes.result c.coded.ensures (rw (q.sizes.0, q.sizes.1, q.pack, q.marks, q.goal.0, q.goal.1) at c.check_yes.ensures)
+    let h = c.checked.ensures in
+    let q = h.4 in
+    yes_coded _ _ _ _ _ _ _ h.2 h.6 (rw (q.0, q.1, q.2, q.3, q.4, q.5, h.5) at h.3)
