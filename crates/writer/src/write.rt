@@ -34,11 +34,13 @@ fn write_tables(q: &Taken, tables: &Tables, sheet: &mut [u8])
     requires { q.now.n * (1 + q.now.m) * 8 ≤ length sheet.old }
     ensures { (sheet.new ≡ rows_bytes q.now.n (q.now.n * (1 + q.now.m)) tables.now.concepts tables.now.links ++ drop (q.now.n * (1 + q.now.m) * 8) sheet.old) × ((i : ℕ) → i < q.now.n * (1 + q.now.m) → row_in q.now.n tables.now.concepts tables.now.links i < 2 ^ 64) }
 {
-    write_rows(0, &tables.concepts[..q.n], sheet);
+    let concepts: &[u64] = &tables.concepts;
+    write_rows(0, &concepts[..q.n], sheet);
+    let links: &[u64] = &tables.links;
     for r in 0..q.m {
         let first = r * 64;
         let end = first + q.n;
-        write_rows(q.n * (1 + r), &tables.links[first..end], sheet);
+        write_rows(q.n * (1 + r), &links[first..end], sheet);
     }
 }
 
