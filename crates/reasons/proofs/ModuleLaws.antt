@@ -14,7 +14,8 @@ use Rattle.pack.specs.Question.{counted}
 use Rattle.pack.specs.Record.{lines_of, Valid}
 use Rattle.pack.proofs.QuestionLaws.{Asked, asked, asked_valid}
 use Rattle.pack.proofs.RecordLaws.{lines_length, valid_most}
-use Rattle.reasons.specs.Reach.{Name, module_in, IsModule}
+use Rattle.reasons.specs.declared.names.Name.{Name}
+use Rattle.reasons.specs.Reach.{module_in, IsModule}
 use Rattle.reasons.specs.Computed.{reached, module_of, module_marks}
 use Rattle.reasons.specs.Names.{AdmittedOf}
 use Rattle.reasons.proofs.ReachLaws.{module_is, module_one}

@@ -13,7 +13,9 @@ use Rattle.passes.specs.Passes.{goal_at_end}
 use Rattle.passes.specs.Loop.{loop, gate}
 use Rattle.passes.specs.Saturation.{System, holds, attempt, runs}
 use Rattle.reasons.specs.Printed.{without}
-use Rattle.reasons.specs.Reach.{Name, concept, role, left_names, right_names, module_in}
+use Rattle.reasons.specs.declared.names.Name.{Name}
+use Rattle.reasons.specs.declared.names.Name.TheVariants.{Concept, Role}
+use Rattle.reasons.specs.Reach.{left_names, right_names, module_in}
 use Rattle.reasons.specs.declared.set.SetAnswer.{SetAnswer}
 use Rattle.reasons.specs.Set.{set_told}
 
@@ -23,14 +25,14 @@ pub record Arrow : Type 0 where
   pub side : ℕ
 
 unfoldable pub same_name : Name → Name → Bool
-same_name (concept a) (concept b) = eqb a b
-same_name (concept a) (role b) = false
-same_name (role a) (concept b) = false
-same_name (role a) (role b) = eqb a b
+same_name (Concept a) (Concept b) = eqb a b
+same_name (Concept a) (Role b) = false
+same_name (Role a) (Concept b) = false
+same_name (Role a) (Role b) = eqb a b
 
 -- where a side has less than two names, concept a stands for the others: it is reached from the start
 abbrev pub name_at : ℕ → List Name → ℕ → Name
-name_at a names j = get_or names j (concept a)
+name_at a names j = get_or names j (Concept a)
 
 -- the names as a system to saturate: a step gives a name of a line's right side for the two of its left side
 abbrev pub reach : List Line → ℕ → System
@@ -46,7 +48,7 @@ reach ls a = record {
 module _ (ls : List Line) (S : ℕ → Bool) (a : ℕ) where
   -- both names of the right side of the line at i, each where the left side is there and it is new
   unfoldable pub both_sides : ℕ → List Arrow → List Arrow
-  both_sides i = loop 2 0 (λ j. attempt (reach ls a) (same_name (concept a)) (record { place = i; side = j }))
+  both_sides i = loop 2 0 (λ j. attempt (reach ls a) (same_name (Concept a)) (record { place = i; side = j }))
 
   -- a pass: each marked line, by place
   unfoldable pub reach_pass : List Arrow → List Arrow
@@ -54,7 +56,7 @@ module _ (ls : List Line) (S : ℕ → Bool) (a : ℕ) where
 
 -- the names reached from a; n + m + 1 passes are enough, since each but the last adds a name
 unfoldable pub reached : List Line → (ℕ → Bool) → ℕ → ℕ → ℕ → Name → Bool
-reached ls S n m a = holds (reach ls a) (same_name (concept a)) (runs (reach_pass ls S a) (suc (n + m)) [])
+reached ls S n m a = holds (reach ls a) (same_name (Concept a)) (runs (reach_pass ls S a) (suc (n + m)) [])
 
 -- the marked places whose left-side names are all reached
 unfoldable pub module_of : List Line → (ℕ → Bool) → ℕ → ℕ → ℕ → ℕ → Bool
