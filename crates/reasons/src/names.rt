@@ -76,20 +76,18 @@ impl Names {
         ensures { result ≡ waits_for (name_in self) (left_names l) }
     {
         match l {
-            Line::Under { a, b: _ } => self.lacking(Name::Concept(a)),
-            Line::BothUnder { a1, a2, b: _ } => self
+            Line::Under { a, .. } | Line::UnderSome { a, .. } => self.lacking(Name::Concept(a)),
+            Line::BothUnder { a1, a2, .. } => self
                 .lacking(Name::Concept(a1))
                 .or(self.lacking(Name::Concept(a2))),
-            Line::UnderSome { a, r: _, b: _ } => self.lacking(Name::Concept(a)),
-            Line::SomeUnder { r, a, b: _ } => self
+            Line::SomeUnder { r, a, .. } => self
                 .lacking(Name::Role(r))
                 .or(self.lacking(Name::Concept(a))),
-            Line::RoleUnder { r, s: _ } => self.lacking(Name::Role(r)),
-            Line::ChainUnder { r, s, t: _ } => self
+            Line::RoleUnder { r, .. } => self.lacking(Name::Role(r)),
+            Line::ChainUnder { r, s, .. } => self
                 .lacking(Name::Role(r))
                 .or(self.lacking(Name::Role(s))),
-            Line::ToItself { r: _ } => None,
-            Line::NoLine => None,
+            Line::ToItself { .. } | Line::NoLine => None,
         }
     }
 
@@ -99,12 +97,12 @@ impl Names {
         ensures { result ≡ with_names self (right_names l) }
     {
         match l {
-            Line::Under { a: _, b } => self.with(Name::Concept(b)),
-            Line::BothUnder { a1: _, a2: _, b } => self.with(Name::Concept(b)),
-            Line::UnderSome { a: _, r, b } => self.with(Name::Role(r)).with(Name::Concept(b)),
-            Line::SomeUnder { r: _, a: _, b } => self.with(Name::Concept(b)),
-            Line::RoleUnder { r: _, s } => self.with(Name::Role(s)),
-            Line::ChainUnder { r: _, s: _, t } => self.with(Name::Role(t)),
+            Line::Under { b, .. } | Line::BothUnder { b, .. } | Line::SomeUnder { b, .. } => {
+                self.with(Name::Concept(b))
+            }
+            Line::UnderSome { r, b, .. } => self.with(Name::Role(r)).with(Name::Concept(b)),
+            Line::RoleUnder { s, .. } => self.with(Name::Role(s)),
+            Line::ChainUnder { t, .. } => self.with(Name::Role(t)),
             Line::ToItself { r } => self.with(Name::Role(r)),
             Line::NoLine => self,
         }
