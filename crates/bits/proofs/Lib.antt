@@ -1,6 +1,8 @@
 -- The laws, for the callers' proofs.
 pub mod Truth
 pub mod SetLaws
+pub mod FoundLaws
+pub mod WalkLaws
 pub mod Sums
 pub mod ListLaws
 pub mod BitLaws

@@ -4,8 +4,9 @@ use mathlib.Core.Path.{◌≡◌, sym, ◌∙◌}
 use mathlib.Core.Bool.{Bool, cond, not, ◌&&◌, ◌||◌}
 use Prim.Native.Nat.{ℕ, ◌-◌, ◌%◌, ◌^◌, ◌<◌}
 use lib.Dec.{eqb}
+use Rattle.std.specs.Prelude.{Option}
 use Rattle.bits.specs.Bit.{has, with_bit}
-use Rattle.bits.specs.Sets.{lowest, count_to}
+use Rattle.bits.specs.Sets.{lowest, found_below, count_to}
 use Rattle.bits.proofs.BitLaws.{has_ext}
 
 pub no_second : {A : Type 0} {fixed r s : A} → r ≡ fixed → s ≡ fixed → r ≡ s
@@ -21,7 +22,7 @@ with_bit_fixed w j r r' = no_second
 pub column_with_fixed : (column row a y r r' : ℕ) → r ≡ cond (has row (a % 64)) (with_bit column (y % 64)) column → r' ≡ cond (has row (a % 64)) (with_bit column (y % 64)) column → r ≡ r'
 column_with_fixed column row a y r r' = no_second
 
-pub next_bit_fixed : (w j r r' : ℕ) → r ≡ lowest (has w) j (64 - j) → r' ≡ lowest (has w) j (64 - j) → r ≡ r'
+pub next_bit_fixed : (w j : ℕ) (r r' : Option ℕ) → r ≡ found_below 64 (lowest (has w) j (64 - j)) → r' ≡ found_below 64 (lowest (has w) j (64 - j)) → r ≡ r'
 next_bit_fixed w j r r' = no_second
 
 pub count_bits_fixed : (w r r' : ℕ) → r ≡ count_to (has w) 64 → r' ≡ count_to (has w) 64 → r ≡ r'

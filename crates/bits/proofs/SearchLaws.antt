@@ -15,6 +15,7 @@ use borrow.Author.Tests.{eq-eqb, ne_eqb}
 use Rattle.bits.specs.Bit.{has}
 use Rattle.bits.specs.Sets.{lowest, count_to}
 use Rattle.bits.proofs.SetLaws.{Lowest, lowest_is, count_add, count_same}
+use Rattle.bits.proofs.FoundLaws.{Found, Missing}
 use Rattle.bits.proofs.BitLaws.{bit, has_one, one_has, not_has, has_not, bit_zero, bit_suc, bit_shr, bit_of_zero, has_zero, bit_high, by_bits, bit_has, has_and, has_none}
 
 -- the lowest set bit, by trailing zeros
@@ -46,15 +47,10 @@ module _ (w y : ℕ) (hw : w < 2 ^ 64) (hy : y < 64) where
       let e : y + (i - y) ≡ i = omega arith in
       ap (bit w) (sym e) ∙ sym (bit_shr w y (i - y))
 
-  pub next_none : w / 2 ^ y ≡ 0 → Lowest (has w) y (64 - y) 64
-  next_none e = record {
-    from = omega arith;
-    within = omega arith;
-    none = λ i l h. not_has w i (shifted i l ∙ ap (λ (x : ℕ). bit x (i - y)) e ∙ bit_of_zero (i - y));
-    found = λ h. absurd (omega arith);
-  }
+  pub next_none : w / 2 ^ y ≡ 0 → Missing (has w) y 64
+  next_none e = record { none = λ i l h. not_has w i (shifted i l ∙ ap (λ (x : ℕ). bit x (i - y)) e ∙ bit_of_zero (i - y)) }
 
-  pub next_found : (w / 2 ^ y ≡ 0 → ⊥) → Lowest (has w) y (64 - y) (y + count_trailing_zeros 64 (w / 2 ^ y))
+  pub next_found : (w / 2 ^ y ≡ 0 → ⊥) → Found (has w) y 64 (y + count_trailing_zeros 64 (w / 2 ^ y))
   next_found n =
       let t : ℕ = count_trailing_zeros 64 (w / 2 ^ y) in
       let one : bit w (y + t) ≡ 1 = sym (bit_shr w y t) ∙ tz_at 64 (w / 2 ^ y) (omega (arith, shr_le w y)) n in
@@ -62,9 +58,9 @@ module _ (w y : ℕ) (hw : w < 2 ^ 64) (hy : y < 64) where
       by_contra (suc (y + t)) 64 (λ l. omega (arith, one, bit_high 64 w (y + t) hw (omega arith))) in
       record {
         from = omega arith;
-        within = omega arith;
-        none = λ i l h. not_has w i (shifted i l ∙ tz_below 64 (w / 2 ^ y) (i - y) (omega arith));
-        found = λ h. one_has w (y + t) one;
+        there = omega arith;
+        here = one_has w (y + t) one;
+        before = λ i l h. not_has w i (shifted i l ∙ tz_below 64 (w / 2 ^ y) (i - y) (omega arith));
       }
 
 -- one less: the lowest set bit t turns to 0, and the bits above it stay

@@ -3,7 +3,11 @@
 
 ghost use Rattle.std.specs.Prelude.{◌≡◌, cond, not, ◌&&◌, ◌||◌, ℕ, ◌-◌, ◌%◌, eqb};
 ghost use Rattle.bits.specs.Bit.{has, with_bit};
-ghost use Rattle.bits.specs.Sets.{lowest, count_to};
+ghost use Rattle.bits.specs.Sets.{lowest, found_below, count_to};
+
+pub mod walk;
+
+use crate::walk::Ones;
 
 // Is bit j mod 64 of w set?
 pub fn test_bit(w: u64, j: usize) -> bool
@@ -43,18 +47,18 @@ pub fn column_with(column: u64, row: u64, a: usize, y: usize) -> u64
     column
 }
 
-// The lowest set bit of w from bit j on; 64, or j itself past that, where there is none.
-pub fn next_bit(w: u64, j: usize) -> usize
-    ensures { result ≡ lowest (has w) j (64 - j) }
+// The lowest set bit of w from bit j on, where there is one.
+pub fn next_bit(w: u64, j: usize) -> Option<usize>
+    ensures { result ≡ found_below 64 (lowest (has w) j (64 - j)) }
 {
     if 64 <= j {
-        return j;
+        return None;
     }
     let rest = w >> j;
     if rest == 0 {
-        return 64;
+        return None;
     }
-    j + u64::trailing_zeros(rest) as usize
+    Some(j + rest.trailing_zeros() as usize)
 }
 
 // w with its lowest set bit cleared; 0 for 0.
@@ -71,5 +75,12 @@ pub fn without_lowest(w: u64) -> u64
 pub fn count_bits(w: u64) -> u32
     ensures { result ≡ count_to (has w) 64 }
 {
-    u64::count_ones(w)
+    w.count_ones()
+}
+
+// The set bits of w, ascending.
+pub fn ones(w: u64) -> Ones
+    ensures { result ≡ record { word = w; from = 0 } }
+{
+    Ones { word: w, from: 0 }
 }

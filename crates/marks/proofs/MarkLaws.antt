@@ -9,10 +9,11 @@ use lib.Dec.{eqb, leb}
 use lib.ListN.{length, get_or, get_or-eq_default}
 use borrow.Author.Tests.{eqb-true, eq-eqb, le-leb, lt-leb, not-true}
 use Rattle.bits.specs.Bit.{has}
-use Rattle.bits.specs.Sets.{lowest, count_to, some}
+use Rattle.bits.specs.Sets.{count_to, some}
 use Rattle.bits.proofs.Truth.{both_true, true_both, and_no, never, is_no}
 use Rattle.bits.proofs.BitLaws.{has_zero}
-use Rattle.bits.proofs.SetLaws.{Lowest, lowest_is, true_some, some_false, count_add, count_same}
+use Rattle.bits.proofs.FoundLaws.{Found, Missing}
+use Rattle.bits.proofs.SetLaws.{true_some, some_false, count_add, count_same}
 use Rattle.marks.specs.Marks.{marked, marks_fit}
 
 module _ (ws : List ℕ) where
@@ -37,39 +38,28 @@ module _ (ws : List ℕ) where
         count_same (λ j. marked ws (64 * w + j)) (has (get_or ws w 0)) 64 (λ j l. at_word (64 * w + j) w j (omega arith) (omega arith)),
       )
 
-  -- from p on, nothing is marked before q
-  abbrev pub Clear : ℕ → ℕ → Type 0
-  Clear p q = (i : ℕ) → p ≤ i → i < q → marked ws i ≡ false
-
-  -- the search within the word of place q, and where it leads
-  module _ (q j : ℕ) (e : j ≡ lowest (has (get_or ws (q / 64) 0)) (q % 64) (64 - q % 64)) where
-    in_word : Lowest (has (get_or ws (q / 64) 0)) (q % 64) (64 - q % 64) j
-    in_word = rw e (lowest_is (has (get_or ws (q / 64) 0)) (q % 64) (64 - q % 64))
-
-    pub word_bounds : (q % 64 ≤ j) × (j ≤ 64)
-    word_bounds = let w = in_word.within in (in_word.from, omega arith)
-
-    pub clear_word : (p : ℕ) → Clear p q → Clear p (q / 64 * 64 + j)
-    clear_word p f i a b = go (dec_lt i q)
+  -- THE SEARCH WORD BY WORD: nothing from p on is marked in the words before k; in word k, from p on, a place is or none
+  module _ {p : ℕ} (k : ℕ) (m : Missing (marked ws) p (k * 64)) where
+    clear : (i : ℕ) → p ≤ i → i < k * 64 + 64 → (k * 64 ≤ i → has (get_or ws k 0) (i % 64) ≡ false) → marked ws i ≡ false
+    clear i h l f = go (dec_lt i (k * 64))
       where
-        go : Dec (i < q) → marked ws i ≡ false
-        go (yes h) = f i a h
-        go (no h) = let w = word_bounds.1 in at_word i (q / 64) (i % 64) (omega arith) refl ∙ in_word.none (i % 64) (omega arith) (omega arith)
+        go : Dec (i < k * 64) → marked ws i ≡ false
+        go (yes b) = m.none i h b
+        go (no b) = at_word i k (i % 64) (omega arith) refl ∙ f (omega arith)
 
-    pub found_word : (p : ℕ) → p ≤ q → q < 1024 → Clear p q → j < 64 → Lowest (marked ws) p (1024 - p) (q / 64 * 64 + j)
-    found_word p hp hq f l = record {
-      from = let w = word_bounds.0 in omega arith;
-      within = omega arith;
-      none = clear_word p f;
-      found = λ _. at_word (q / 64 * 64 + j) (q / 64) j (omega arith) (omega arith) ∙ in_word.found (omega arith);
-    }
+    pub word_missing : Missing (has (get_or ws k 0)) (p - k * 64) 64 → Missing (marked ws) p ((k + 1) * 64)
+    word_missing n = record { none = λ i h l. clear i h (omega arith) (λ a. n.none (i % 64) (omega arith) (omega arith)) }
 
-  pub none_found : (p q : ℕ) → p ≤ q → q ≤ p + (1024 - p) → 1024 ≤ q → Clear p q → Lowest (marked ws) p (1024 - p) q
-  none_found p q h l k f = record { from = h; within = omega arith; none = f; found = λ g. absurd (omega arith) }
-
-  -- the next marked place, as the search has it
-  pub next_lowest : (i r : ℕ) → r ≡ lowest (marked ws) i (1024 - i) → Lowest (marked ws) i (1024 - i) r
-  next_lowest i r e = rw e (lowest_is (marked ws) i (1024 - i))
+    pub word_found : {j : ℕ} → k < 16 → Found (has (get_or ws k 0)) (p - k * 64) 64 j → Found (marked ws) p 1024 (k * 64 + j)
+    word_found {j} h f =
+        let b = f.from in
+        let t = f.there in
+        record {
+          from = omega arith;
+          there = omega arith;
+          here = at_word (k * 64 + j) k j (omega arith) (omega arith) ∙ f.here;
+          before = λ i g l. clear i g (omega arith) (λ a. f.before (i % 64) (omega arith) (omega arith));
+        }
 
   -- MARKS: 16 words, and no record at or above the count is marked
   pub record Fit (count : ℕ) : Type 0 where

@@ -3,14 +3,15 @@ use mathlib.Core.Path.{◌≡◌}
 use mathlib.Core.Bool.{Bool}
 use mathlib.Core.List.{List}
 use Prim.Native.Nat.{ℕ, ◌-◌}
-use Rattle.bits.specs.Sets.{lowest}
+use Rattle.std.specs.Prelude.{Option}
+use Rattle.bits.specs.Sets.{lowest, found_below}
 use Rattle.bits.proofs.Promises.{no_second}
 use Rattle.marks.specs.Marks.{marked, marks_fit, mark_count, marks_of, cut_out}
 
 pub is_marked_fixed : (ws : List ℕ) (i : ℕ) (r r' : Bool) → r ≡ marked ws i → r' ≡ marked ws i → r ≡ r'
 is_marked_fixed ws i r r' = no_second
 
-pub next_marked_fixed : (ws : List ℕ) (i r r' : ℕ) → r ≡ lowest (marked ws) i (1024 - i) → r' ≡ lowest (marked ws) i (1024 - i) → r ≡ r'
+pub next_marked_fixed : (ws : List ℕ) (i : ℕ) (r r' : Option ℕ) → r ≡ found_below 1024 (lowest (marked ws) i (1024 - i)) → r' ≡ found_below 1024 (lowest (marked ws) i (1024 - i)) → r ≡ r'
 next_marked_fixed ws i r r' = no_second
 
 pub count_marked_fixed : (ws : List ℕ) (r r' : ℕ) → r ≡ mark_count ws → r' ≡ mark_count ws → r ≡ r'

@@ -33,11 +33,8 @@ pub fn cut_marks(marks: &[u64], i: usize, k: usize) -> [u64; 16]
     ensures { result ≡ marks_of (cut_out (marked marks.now) i k) }
 {
     let mut words = [0u64; 16];
-    let mut j = 0;
-    while j < 16 {
-        let w = cut_word(mark_word(marks, j), j * 64, i, k);
-        words[j] = w;
-        j += 1;
+    for j in 0..16 {
+        words[j] = cut_word(mark_word(marks, j), j * 64, i, k);
     }
     words
 }
@@ -47,10 +44,5 @@ pub fn put_marks(words: &[u64; 16], out: &mut [u64])
     requires { (length words.now ≡ 16) × (length out.old ≡ 16) }
     ensures { out.new ≡ words.now }
 {
-    let mut k = 0;
-    while k < 16 {
-        let w = words[k];
-        out[k] = w;
-        k += 1;
-    }
+    out.copy_from_slice(words);
 }

@@ -3,3 +3,4 @@
 
 pub mod change;
 pub mod look;
+pub mod walk;

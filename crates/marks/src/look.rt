@@ -1,16 +1,15 @@
 // What is marked: one place, the next one, how many, and whether words are marks of a pack.
 ghost use Rattle.std.specs.Prelude.{◌≡◌, ◌-◌, get_or};
-ghost use Rattle.bits.specs.Sets.{lowest};
+ghost use Rattle.bits.specs.Sets.{lowest, found_below};
 ghost use Rattle.marks.specs.Marks.{marked, marks_fit, mark_count};
+
+use crate::walk::Places;
 
 // Word j of the marks; none past their end.
 pub fn mark_word(marks: &[u64], j: usize) -> u64
     ensures { result ≡ get_or marks.now j 0 }
 {
-    if marks.len() <= j {
-        return 0;
-    }
-    marks[j]
+    marks.get(j).copied().unwrap_or(0)
 }
 
 // Is place i marked?
@@ -20,19 +19,24 @@ pub fn is_marked(marks: &[u64], i: usize) -> bool
     bits::test_bit(mark_word(marks, i / 64), i)
 }
 
-// The lowest marked place from `from` on, below 1,024; where there is none, 1,024 or `from` itself past that.
-pub fn next_marked(marks: &[u64], from: usize) -> usize
-    ensures { result ≡ lowest (marked marks.now) from (1024 - from) }
+// The lowest marked place from `from` on, where there is one.
+pub fn next_marked(marks: &[u64], from: usize) -> Option<usize>
+    ensures { result ≡ found_below 1024 (lowest (marked marks.now) from (1024 - from)) }
 {
-    let mut i = from;
-    while i < 1024 {
-        let j = bits::next_bit(mark_word(marks, i / 64), i % 64);
-        i = i / 64 * 64 + j;
-        if j < 64 {
-            return i;
+    for k in from / 64..16 {
+        if let Some(j) = bits::next_bit(mark_word(marks, k), from.saturating_sub(k * 64)) {
+            return Some(k * 64 + j);
         }
     }
-    i
+    None
+}
+
+// The marked places, ascending.
+pub fn places(marks: &[u64]) -> Places<'_>
+    ensures from { result.from ≡ 0 }
+    ensures marks { result.marks.now ≡ marks.now }
+{
+    Places { marks, from: 0 }
 }
 
 // How many places are marked.
@@ -50,8 +54,5 @@ pub fn count_marked(marks: &[u64]) -> u32
 pub fn marks_fit(marks: &[u64], count: usize) -> bool
     ensures { result ≡ marks_fit marks.now count }
 {
-    if marks.len() != 16 {
-        return false;
-    }
-    1024 <= next_marked(marks, count)
+    marks.len() == 16 && next_marked(marks, count).is_none()
 }

@@ -11,7 +11,7 @@ loop-j-init c = filled_start _ _ refl
 pub loop-j-preserved : goal.loop-j-preserved
 loop-j-preserved c =
     let l = c.loop-j in
-    filled_on _ _ _ _ (omega arith) l.invariant (omega arith) (cut_mark _ _ _ _ _ _ c.mark_word.ensures c.cut_word-w.ensures)
+    filled_on _ _ _ _ (omega arith) l.invariant (omega arith) (cut_mark _ _ _ _ _ _ c.mark_word.ensures c.cut_word.ensures)
 
 pub returns : goal.returns
 returns c = let l = c.loop-j in filled_end _ _ _ (omega arith) l.invariant

@@ -1,11 +1,8 @@
--- `next_marked`: from the start on nothing is marked before i (`Clear`): the word of i has the next marked place
--- (`found_word`), or i goes to its end (`clear_word`); from 1,024 on there is none (`none_found`).
-use Prim.Native.Nat.{◌≤◌, ◌-◌, ◌+◌}
-use Rattle.marks.proofs.MarkLaws.{Clear}
+-- `next_marked`: nothing from `from` on is marked in the words before k.
+use Prim.Native.Nat.{◌*◌}
+use Rattle.bits.proofs.FoundLaws.{Missing}
+use Rattle.marks.specs.Marks.{marked}
 use Rattle.marks.proofs.look.next_marked.Given as goal
 
-abbrev pub invariant-loop-i : goal.invariant-loop-i
-invariant-loop-i l = (l.from ≤ l.i) × (l.i ≤ l.from + (1024 - l.from)) × Clear l.marks l.from l.i
-
-abbrev pub decreases-loop-i : goal.decreases-loop-i
-decreases-loop-i l = l.from + (1024 - l.from) - l.i
+abbrev pub invariant-loop-k : goal.invariant-loop-k
+invariant-loop-k l = Missing (marked l.marks) l.from (l.k * 64)
