@@ -1,6 +1,7 @@
 // The engine: passes over the rows, the verdict, completion.
 #![tactic(auto)]
 
+pub mod answer;
 pub mod complete;
 pub mod run;
 pub mod verdict;
