@@ -3,6 +3,7 @@
 use mathlib.Core.Path.{◌≡◌, sym, ap, ◌∙◌}
 use mathlib.Core.Bool.{Bool, true, false}
 use mathlib.Core.List.{List}
+use Rattle.std.specs.Prelude.{Ok}
 use Prim.Native.Nat.{ℕ, ◌+◌, ◌-◌, ◌≤◌}
 use native.Mathlib.Omega.{arith}
 use lib.ListN.{length}
@@ -11,7 +12,7 @@ use Rattle.bits.proofs.Truth.{never}
 use Rattle.marks.specs.Marks.{marked, marks_of, cut_out}
 use Rattle.marks.proofs.WordLaws.{marks_length}
 use Rattle.marks.proofs.CutLaws.{cut_marked, cut_fewer}
-use Rattle.pack.specs.Computed.{Admitted}
+use Rattle.pack.specs.Computed.{check_question}
 use Rattle.pack.specs.Record.{lines_of}
 use Rattle.pack.specs.World.{Follows}
 use Rattle.pack.proofs.QuestionLaws.{asks_fewer, asked, asked_valid}
@@ -24,23 +25,23 @@ use Rattle.reasons.specs.Printed.{IsPicked}
 use Rattle.reasons.proofs.PrintedLaws.{follows_more}
 use Rattle.reasons.proofs.HalveLaws.{Rest, halved_start, halved_end, rest_on, rest_next}
 
-module _ (n m : ℕ) (s ws : List ℕ) (a b : ℕ) (t : Admitted n m s ws a b) where
+module _ (n m : ℕ) (s ws : List ℕ) (a b : ℕ) {c : ℕ} (t : check_question n m s ws a b ≡ Ok c) where
   pub taken_sixteen : length ws ≡ 16
-  taken_sixteen = (asked n m s ws a b t.1).marks.sixteen
+  taken_sixteen = (asked n m s ws a b t).marks.sixteen
 
   -- a pack has at most 1,024 records
   pub lines_most : length (lines_of s) ≤ 1024
-  lines_most = omega (arith, lines_length s, (asked n m s ws a b t.1).pack.size)
+  lines_most = omega (arith, lines_length s, (asked n m s ws a b t).pack.size)
 
   -- with fewer marks
-  pub fewer_taken : (ws' : List ℕ) → length ws' ≡ 16 → ((i : ℕ) → marked ws' i ≡ true → marked ws i ≡ true) → Admitted n m s ws' a b
-  fewer_taken ws' l h = (t.0, asks_fewer n m s ws a b t.1 ws' l h)
+  pub fewer_taken : (ws' : List ℕ) → length ws' ≡ 16 → ((i : ℕ) → marked ws' i ≡ true → marked ws i ≡ true) → check_question n m s ws' a b ≡ Ok c
+  fewer_taken ws' l h = asks_fewer n m s ws a b t ws' l h
 
   module _ (i k : ℕ) (ws' : List ℕ) (e : ws' ≡ marks_of (cut_out (marked ws) i k)) where
     cut_same : marked ws' ≡ cut_out (marked ws) i k
     cut_same = ap marked e ∙ cut_marked ws i k taken_sixteen
 
-    pub cut_taken : Admitted n m s ws' a b
+    pub cut_taken : check_question n m s ws' a b ≡ Ok c
     cut_taken = fewer_taken ws' (ap length e ∙ marks_length (cut_out (marked ws) i k)) (λ j h. cut_fewer (marked ws) i k j (ap (λ (p : ℕ → Bool). p j) (sym cut_same) ∙ h))
 
     pub cut_follows : goal_held n m s ws' a b ≡ goal_at_end (lines_of s) (cut_out (marked ws) i k) n m a b
@@ -50,16 +51,16 @@ module _ (n m : ℕ) (s ws : List ℕ) (a b : ℕ) (t : Admitted n m s ws a b) w
   -- the answer is right, over any set of places
   module _ (P : ℕ → Bool) where
     pub yes_follows : goal_at_end (lines_of s) P n m a b ≡ true → Follows (lines_of s) P a b
-    yes_follows = let q = asked n m s ws a b t.1 in (decides (lines_of s) P n m (asked_valid n m s ws a b t.1) q.pack.n_some a b q.goal_a).0
+    yes_follows = let q = asked n m s ws a b t in (decides (lines_of s) P n m (asked_valid n m s ws a b t) q.pack.n_some a b q.goal_a).0
 
     pub no_follows : goal_at_end (lines_of s) P n m a b ≡ false → Follows (lines_of s) P a b → ⊥
-    no_follows e f = let q = asked n m s ws a b t.1 in never ((decides (lines_of s) P n m (asked_valid n m s ws a b t.1) q.pack.n_some a b q.goal_a).1 f) e
+    no_follows e f = let q = asked n m s ws a b t in never ((decides (lines_of s) P n m (asked_valid n m s ws a b t) q.pack.n_some a b q.goal_a).1 f) e
 
 -- THE TURNS OF PICKING: of the marks given, those that are left, with the places below i settled
 abbrev pub Picking : List ℕ → List ℕ → ℕ → ℕ → List ℕ → ℕ → Type 0
 Picking s given a b rest i = Rest (length (lines_of s)) (λ P. Follows (lines_of s) P a b) (marked given) rest i
 
-module _ (n m : ℕ) (s given : List ℕ) (a b : ℕ) (t : Admitted n m s given a b) where
+module _ (n m : ℕ) (s given : List ℕ) (a b : ℕ) {c : ℕ} (t : check_question n m s given a b ≡ Ok c) where
   abbrev len : ℕ
   len = length (lines_of s)
 

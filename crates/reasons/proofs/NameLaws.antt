@@ -125,18 +125,16 @@ both_inside R R' h l b = (all_inside R R' h (left_names l) b.0, all_inside R R' 
 
 -- A WALK, from one place to the next
 module _ (ls : List Line) (D : ℕ → Bool) (p : Reached) where
+  pub walked_start : Walked ls D 0 p p
+  walked_start = record { keeps = λ x h. h; least = λ a Q r h. h; stays = λ x i h. h; comes = λ x i h g. never h g; placed = λ i l. absurd (omega arith) }
+
   -- no place from i on and before j is to be visited
-  walked_on : (i j : ℕ) {q : Reached} → ((k : ℕ) → i ≤ k → k < j → D k ≡ false) → Walked ls D i p q → Walked ls D j p q
+  pub walked_on : (i j : ℕ) {q : Reached} → ((k : ℕ) → i ≤ k → k < j → k < length ls → D k ≡ false) → Walked ls D i p q → Walked ls D j p q
   walked_on i j {q} none w = record { keeps = w.keeps; least = w.least; stays = w.stays; comes = w.comes; placed = λ k l t d. go k l t d (dec_lt k i) }
     where
       go : (k : ℕ) → k < j → k < length ls → D k ≡ true → Dec (k < i) → Filed ls q.files (name_in p.names) k
       go k l t d (yes h) = w.placed k h t d
-      go k l t d (no h) = never d (none k (omega arith) l)
-
-  pub walked_start : {j : ℕ} → Lowest D 0 1024 j → Walked ls D j p p
-  walked_start {j} low =
-      walked_on 0 j low.none
-      (record { keeps = λ x h. h; least = λ a Q r h. h; stays = λ x i h. h; comes = λ x i h g. never h g; placed = λ i l. absurd (omega arith) })
+      go k l t d (no h) = never d (none k (omega arith) l t)
 
   -- the line at a place of D
   module _ (i : ℕ) (q r : Reached) (w : Walked ls D i p q) (there : i < length ls) (here : D i ≡ true)
@@ -159,8 +157,8 @@ module _ (ls : List Line) (D : ℕ → Bool) (p : Reached) where
       waits = λ x h. lacks_less (name_in p.names) (name_in q.names) w.keeps (left_names (line_at ls i)) x (one_lacks (name_in q.names) (left_names (line_at ls i)) x h);
     }
 
-    walked_line : Walked ls D (i + 1) p r
-    walked_line = record {
+    pub walked_next : Walked ls D (i + 1) p r
+    walked_next = record {
       keeps = λ x h. keeps x (w.keeps x h);
       least = λ a Q f h. rw names (line_least q.names (line_at ls i) Q (f.goes i there here) (w.least a Q f h));
       stays = λ x k h. files.stays x k (w.stays x k h);
@@ -181,13 +179,6 @@ module _ (ls : List Line) (D : ℕ → Bool) (p : Reached) where
         placed k l t d (no z) =
             let f = w.placed k (omega arith) t d in
             record { under = f.under; there = files.stays f.under k f.there; waits = f.waits }
-
-  pub walked_next : (i : ℕ) (q r : Reached) → Walked ls D i p q → i < length ls → D i ≡ true → r.names ≡ with_line q.names (line_at ls i) → IsFiled q.files r.files (waits_for (name_in q.names) (left_names (line_at ls i))) i
-      → {j : ℕ} → Lowest D (i + 1) (1024 - (i + 1)) j → Walked ls D j p r
-  walked_next i q r w t d names files {j} low = walked_on (i + 1) j low.none (walked_line i q r w t d names files)
-
-  pub walked_end : (i : ℕ) {q : Reached} → Walked ls D i p q → length ls ≤ i → Walked ls D (length ls) p q
-  walked_end i w h = record { keeps = w.keeps; least = w.least; stays = w.stays; comes = w.comes; placed = λ k l. w.placed k (omega arith) }
 
 -- how many names there are
 abbrev pub name_count : Names → ℕ

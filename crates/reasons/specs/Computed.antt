@@ -1,9 +1,9 @@
 -- The module, the printed set and the question check of their calls, as they are worked out. Only functions that
 -- docs/PROMISES.md lists as inner cite this page. `module_of` is the module by `module_is`, `printed` the printed set by
 -- `printed_is`.
-use Rattle.std.specs.Prelude.{List, [], Bool, true, false, ◌&&◌, ℕ, zero, suc, ◌+◌, eqb, length, get_or}
+use Rattle.std.specs.Prelude.{List, [], Bool, true, false, ◌&&◌, ℕ, zero, suc, ◌+◌, eqb, length, get_or, Result}
 use Rattle.marks.specs.Marks.{marks_fit, marks_of}
-use Rattle.pack.specs.declared.check.Checked.{Checked}
+use Rattle.pack.specs.declared.check.Refusal.{Refusal}
 use Rattle.pack.specs.Record.{lines_of, record_count}
 use Rattle.pack.specs.Computed.{check_pack, after_pack}
 use Rattle.pack.specs.declared.line.Line.{Line}
@@ -16,7 +16,7 @@ use Rattle.reasons.specs.Printed.{without}
 use Rattle.reasons.specs.declared.names.Name.{Name}
 use Rattle.reasons.specs.declared.names.Name.TheVariants.{Concept, Role}
 use Rattle.reasons.specs.Reach.{left_names, right_names, module_in}
-use Rattle.reasons.specs.declared.set.SetAnswer.{SetAnswer}
+use Rattle.reasons.specs.declared.set.SetError.{SetError}
 use Rattle.reasons.specs.Set.{set_told}
 
 -- found by saturation: a step is a place and which of the names on its right side, the first or the second
@@ -76,7 +76,7 @@ unfoldable pub printed : List Line → (ℕ → Bool) → ℕ → ℕ → ℕ �
 printed ls S n m a b = picked (λ P. goal_at_end ls P n m a b) (length ls) S
 
 -- 1 to 5, else the record count, where so many words are lent for the out marks
-unfoldable pub check_reason : ℕ → ℕ → List ℕ → List ℕ → ℕ → ℕ → ℕ → Checked
+unfoldable pub check_reason : ℕ → ℕ → List ℕ → List ℕ → ℕ → ℕ → ℕ → Result ℕ Refusal
 check_reason n m s ws a b words = after_pack (check_pack n m s) n (marks_fit ws (record_count s) && eqb words 16) a b
 
 -- the marks of the module for a
@@ -88,8 +88,8 @@ abbrev pub set_marks : ℕ → ℕ → List ℕ → List ℕ → ℕ → ℕ →
 set_marks n m s ws a b = marks_of (printed (lines_of s) (counted s ws) n m a b)
 
 -- the number and the value of the set call's answer apart
-abbrev pub set_number : SetAnswer → ℕ
+abbrev pub set_number : Result ℕ SetError → ℕ
 set_number r = (set_told r).0
 
-abbrev pub set_value : SetAnswer → ℕ
+abbrev pub set_value : Result ℕ SetError → ℕ
 set_value r = (set_told r).1

@@ -4,7 +4,6 @@ use Rattle.std.specs.Option.{option_or, ForSome, ForNone}
 use Rattle.bits.specs.Bit.{has, with_bit}
 use Rattle.marks.specs.Marks.{marked}
 use Rattle.pack.specs.declared.line.Line.{Line}
-use Rattle.pack.specs.Computed.{Admitted}
 use Rattle.pack.specs.World.{line_at}
 use Rattle.reasons.specs.declared.names.Name.{Name}
 use Rattle.reasons.specs.declared.names.Name.TheVariants.{Concept, Role}
@@ -91,7 +90,3 @@ pub record Walked (ls : List Line) (D : ℕ → Bool) (k : ℕ) (p q : Reached) 
 pub record Fresh (names done : Names) (x : Option Name) : Type 0 where
   pub some : ForSome x (λ y. IsShort y × (name_in names y ≡ true) × (name_in done y ≡ false))
   pub none : ForNone x (Inside (name_in names) (name_in done))
-
--- a question about a, with some b, is taken
-abbrev pub AdmittedOf : ℕ → ℕ → List ℕ → List ℕ → ℕ → Type 0
-AdmittedOf n m s ws a = (b : ℕ) × Admitted n m s ws a b

@@ -112,14 +112,10 @@ impl Names {
     pub fn next_after(self, done: Names) -> Option<Name>
         ensures { Fresh self done result }
     {
-        let x = bits::next_bit(bits::lacking(self.concepts, done.concepts), 0);
-        if x < 64 {
+        if let Some(x) = bits::next_bit(bits::lacking(self.concepts, done.concepts), 0) {
             return Some(Name::Concept(x as u8));
         }
-        let r = bits::next_bit(bits::lacking(self.roles, done.roles), 0);
-        if r < 64 {
-            return Some(Name::Role(r as u8));
-        }
-        None
+        let r = bits::next_bit(bits::lacking(self.roles, done.roles), 0)?;
+        Some(Name::Role(r as u8))
     }
 }

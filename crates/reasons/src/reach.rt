@@ -8,7 +8,7 @@ ghost use Rattle.reasons.specs.Names.{name_in, with_line, waits_for, IsFiled, Wa
 
 use crate::files::Files;
 use crate::names::{Name, Names};
-use marks::look::next_marked;
+use marks::look::places;
 use pack::line::{Line, line_at};
 
 // What is reached so far: the names, and the records by what they wait for.
@@ -32,16 +32,16 @@ impl Reached {
         }
     }
 
-    // Each record of the places, in turn.
-    fn take_all<'a>(&mut self, pack: &'a [u8], places: &'a [u64])
+    // Each marked record, in turn.
+    fn take_all<'a>(&mut self, pack: &'a [u8], marks: &'a [u64])
         requires { Valid 64 8 (lines_of pack.now) × (length pack.now ≤ 8192) }
-        ensures { Walked (lines_of pack.now) (marked places.now) (length (lines_of pack.now)) self.old self.new }
+        ensures { Walked (lines_of pack.now) (marked marks.now) (length (lines_of pack.now)) self.old self.new }
     {
         let records = pack.len() / 8;
-        let mut i = next_marked(places, 0);
-        while i < records {
-            self.take(line_at(pack, i), i);
-            i = next_marked(places, i + 1);
+        for i in places(marks) {
+            if i < records {
+                self.take(line_at(pack, i), i);
+            }
         }
     }
 }
@@ -59,8 +59,8 @@ pub fn reached_records<'a>(pack: &'a [u8], marks: &'a [u64], a: u8) -> [u64; 16]
     let mut done = Names::none();
     while let Some(name) = reached.names.next_after(done) {
         done = done.with(name);
-        let places = reached.files.under(name);
-        reached.take_all(pack, &places);
+        let waiting = reached.files.under(name);
+        reached.take_all(pack, &waiting);
     }
     reached.files.reached_marks()
 }
