@@ -4,17 +4,18 @@ use mathlib.Core.Bool.{Bool, true, false, cond, not, ◌&&◌, ◌||◌, or-fals
 use mathlib.Core.List.{List, [], ◌∷◌}
 use Rattle.std.specs.Prelude.{Option, None, Some, is_some}
 use Rattle.std.specs.Option.{option_or}
-use Prim.Native.Nat.{ℕ, ◌+◌, ◌-◌, ◌^◌, ◌≤◌, ◌<◌}
+use Prim.Native.Nat.{ℕ, ◌+◌, ◌^◌, ◌≤◌, ◌<◌}
 use native.Mathlib.Decide.{dec_lt, ℕ_discrete}
 use native.Mathlib.Omega.{arith}
 use lib.Dec.{eqb}
 use lib.ListN.{length}
 use borrow.Author.Tests.{eq-eqb, not-true, not-false}
 use Rattle.bits.specs.Bit.{has, with_bit}
-use Rattle.bits.specs.Sets.{lowest, count_to}
+use Rattle.bits.specs.Sets.{count_to}
 use Rattle.bits.proofs.Truth.{both_true, true_both, or_elim, or_left, or_right, never, alike}
 use Rattle.bits.proofs.BitLaws.{has_with, has_zero, has_high}
-use Rattle.bits.proofs.SetLaws.{Lowest, lowest_is, count_le, count_less}
+use Rattle.bits.proofs.FoundLaws.{Found, Missing}
+use Rattle.bits.proofs.SetLaws.{count_le, count_less}
 use Rattle.pack.specs.declared.line.Line.{Line}
 use Rattle.pack.specs.World.{line_at}
 use Rattle.reasons.specs.declared.names.Name.{Name}
@@ -197,19 +198,16 @@ pub name_rise : (ns : Names) (x : Name) → IsShort x → name_in ns x ≡ false
 name_rise ns (Concept x) l e = omega (arith, bits_rise ns.concepts x l e)
 name_rise ns (Role r) l e = omega (arith, bits_rise ns.roles r l e)
 
--- THE NEXT NAME: the lowest bit of a word that the other lacks
-module _ (w v u x : ℕ) (bits : (j : ℕ) → has w j ≡ (has v j && not (has u j))) (low : x ≡ lowest (has w) 0 64) where
-  found : Lowest (has w) 0 64 x
-  found = rw low (lowest_is (has w) 0 64)
+-- THE NEXT NAME: a bit of a word that the other lacks, or none
+module _ (w v u : ℕ) (bits : (j : ℕ) → has w j ≡ (has v j && not (has u j))) where
+  pub next_there : {x : ℕ} → Found (has w) 0 64 x → (has v x ≡ true) × (has u x ≡ false)
+  next_there {x} f = let p = both_true (has v x) (not (has u x)) (sym (bits x) ∙ f.here) in (p.0, not-true (has u x) p.1)
 
-  pub next_there : x < 64 → (has v x ≡ true) × (has u x ≡ false)
-  next_there h = let p = both_true (has v x) (not (has u x)) (sym (bits x) ∙ found.found h) in (p.0, not-true (has u x) p.1)
-
-  pub next_none : v < 2 ^ 64 → 64 ≤ x → (j : ℕ) → has v j ≡ true → has u j ≡ true
-  next_none small e j h = go (dec_lt j 64)
+  pub next_none : v < 2 ^ 64 → Missing (has w) 0 64 → (j : ℕ) → has v j ≡ true → has u j ≡ true
+  next_none small m j h = go (dec_lt j 64)
     where
       go : Dec (j < 64) → has u j ≡ true
-      go (yes l) = not-false (has u j) (sym (ap (λ (t : Bool). t && not (has u j)) h) ∙ sym (bits j) ∙ found.none j (omega arith) (omega arith))
+      go (yes l) = not-false (has u j) (sym (ap (λ (t : Bool). t && not (has u j)) h) ∙ sym (bits j) ∙ m.none j (omega arith) l)
       go (no l) = never h (has_high 64 v j small (omega arith))
 
 module _ (names done : Names) where

@@ -15,13 +15,20 @@ use pack::taken::Taken;
 use std::ops::Range;
 
 // A question that is taken, with some marks less.
-pub fn with_marks<'a>(q: &Taken<'a>, marks: &'a [u64; 16]) -> Taken<'a>
+pub fn with_marks<'a, 'b: 'a>(q: &Taken<'b>, marks: &'a [u64; 16]) -> Taken<'a>
     requires { (length marks.now ≡ 16) × ((i : ℕ) → marked marks.now i ≡ true → marked q.now.marks.now i ≡ true) }
     ensures sizes { (result.n ≡ q.now.n) × (result.m ≡ q.now.m) }
     ensures words { (result.pack.now ≡ q.now.pack.now) × (result.marks.now ≡ marks.now) }
     ensures goal { (result.a ≡ q.now.a) × (result.b ≡ q.now.b) }
 {
-    Taken { marks, ..*q }
+    Taken {
+        n: q.n,
+        m: q.m,
+        pack: q.pack,
+        marks,
+        a: q.a,
+        b: q.b,
+    }
 }
 
 // Does the goal follow from the marked places but those of a range?

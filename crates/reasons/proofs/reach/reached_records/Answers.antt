@@ -21,7 +21,7 @@ pub loop-name-preserved : goal.loop-name-preserved
 loop-name-preserved c =
     let l = c.loop-name in
     let new = c.next_after.ensures.some _ c.in-Some.is in
-    rw c.with-done.ensures (reaching_next _ _ _ l.reached l.done l.invariant _ new.1 _ c.under-places.ensures _ c.take_all-in-Some.ensures)
+    rw c.with-done.ensures (reaching_next _ _ _ l.reached l.done l.invariant _ new.1 _ c.under-waiting.ensures _ c.take_all-in-Some.ensures)
 
 pub returns : goal.returns
 returns c =
