@@ -15,7 +15,7 @@ PAGE, HEADING = 'docs/PROMISES.md', '## What must be believed, in order'
 def table_calls(text):
     """The calls of the table "Public calls"."""
     table = text.split('## Public calls\n')[1].split('\n## ')[0]
-    return re.findall(r'^\| `(\w+)', table, re.M)
+    return re.findall(r'^\| `((?:\w+::)?\w+)', table, re.M)
 
 
 def places(page, found):
@@ -44,13 +44,14 @@ def believed(tree, but=()):
     for page in every.values():
         if page.path.endswith('.rt'):
             for function in pages.functions(page):
-                if function.public and function.name in calls:
+                if function.public and function.path in calls:
                     for _, text in function.ensures:
                         said = pages.words(text, page)
                         todo |= places(page, set(said) - {'result', *function.parameters, *pages.bound(said)})
-                    todo |= places(page, pages.words(' '.join([*function.parameters.values(), function.result or ''])))
+                    types = ' '.join([*function.parameters.values(), function.result or ''])
+                    todo |= places(page, re.findall(r'[A-Za-z]\w*', types))
     while todo:
-        place = at_home(todo.pop(), every)
+        place = pages.home(at_home(todo.pop(), every), every)
         item = item_of(place, every)
         if not item:
             kit |= set() if place[0] in every else {place}

@@ -32,6 +32,9 @@ PASSED_ON = {name: page for page, names in {
     'lib.Bits': 'bit_and bit_or bit_xor',
 }.items() for name in names.split()}
 KIT_PAGES = {'Rattle.std.specs.Int.Bits': 'lib.Bits'}
+# What every clause has without a `use`, and where it is when it is used: the prelude's two enums and their variants.
+PRELUDE = 'Rattle.std.specs.Prelude'
+ALWAYS = {name: (PRELUDE, name) for name in ('Option', 'Some', 'None', 'Result', 'Ok', 'Err')}
 
 
 def crates(tree):
@@ -75,6 +78,33 @@ def spelled_out(path):
     return found
 
 
+def depths(text):
+    """How deep in brackets each sign of a text of the code stands; a < that opens one stands right behind a word."""
+    depth, found = 0, []
+    for i, sign in enumerate(text):
+        closes = sign in ')]}' or (sign == '>' and text[i - 1] not in '-= ')
+        depth -= closes
+        found.append(depth)
+        depth += sign in '([{' or (sign == '<' and (i == 0 or text[i - 1] != ' '))
+    return found
+
+
+def apart(text, at=','):
+    """What stands between the outermost commas of a text of the code."""
+    parts, start = [], 0
+    for i, depth in enumerate(depths(text)):
+        if depth == 0 and text[i] == at:
+            parts.append(text[start:i].strip())
+            start = i + 1
+    return [part for part in [*parts, text[start:].strip()] if part]
+
+
+def bracketed(text):
+    """A text that begins with a bracket: what stands in it, and what stands behind it."""
+    end = depths(text).index(0, 1)
+    return text[1:end].strip(), text[end + 1:].strip()
+
+
 CLOSED = {'(': ':', '{': ':', 'λ': '.', 'let': ':='}
 
 
@@ -99,10 +129,22 @@ class Item:
     def __init__(self, name, kind, open_, sections):
         self.name, self.kind, self.open, self.sections = name, kind, open_, sections
         self.parts, self.rows, self.lines, self.statement, self.span = [], [], [], '', None
+        self.fields, self.facts = None, []
 
     def text(self):
         """What counts of it, in one row: a definition whole, else what it says, after the parameters of its sections."""
         return ' '.join([*(section.text for section in self.sections), *(self.parts if self.open else [self.statement])])
+
+
+    def read_fields(self, sort, text):
+        """The fields of a struct of the code with their types, and the names of its ghost fields."""
+        inside = text.strip().removeprefix(';').rstrip(';').strip()[1:-1]
+        pieces = [' '.join(piece.split()) for piece in apart(inside)]
+        self.facts += [name for piece in pieces for name in re.findall(r'^(?:pub )?ghost (\w+)', piece)]
+        if sort == 'struct':
+            plain = [re.sub(r'^(#\[[^\]]*\] ?)*(pub(\([^)]*\))? )?', '', piece) for piece in pieces if not re.match(r'(pub )?ghost\b', piece)]
+            fields = [re.match(r'(\w+): (.*)$', piece) for piece in plain]
+            self.fields = {field[1]: field[2] for field in fields} if all(fields) else {str(k): piece for k, piece in enumerate(plain)}
 
 
 class Section:
@@ -119,19 +161,26 @@ class Page:
     def __init__(self, path, text):
         self.name = re.sub(r'^crates/|\.\w+$', '', path)
         self.path, self.text, self.crate = path, text, self.name.split('/')[0]
-        self.items, self.parents, self.names, self.aliases, self.doubled = {}, {}, {}, {}, set()
-        for used in re.finditer(r'^(?:pub )?(?:ghost )?use ([^\s;{:]+?)(?:\.\{([^}]*)\})?(?: as (\w+))?;?$', text, re.M):
+        self.items, self.parents, self.names, self.code_names, self.aliases = {}, {}, {}, {}, {}
+        self.doubled, self.unclear = set(), set()
+        for used in re.finditer(r'^ *(?:pub )?(?:ghost )?use ([^\s;{:]+?)(?:\.\{([^}]*)\})?(?: as (\w+))?;?$', text, re.M):
             self.use(*used.groups())
         for used in re.finditer(r'^(?:pub )?use (\w+::[^;]*);', text, re.M) if path.endswith('.rt') else ():
             for *folders, name in spelled_out(used[1]):
                 self.use_code(folders, name)
         (self.read_code if path.endswith('.rt') else self.read)()
 
+    def named(self, name, place):
+        """A name of clauses, definitions or theorems from somewhere else; one that comes from two places, in two blocks of
+        the code, is unclear."""
+        if self.names.setdefault(name, place) != place:
+            self.unclear.add(name)
+
     def use_code(self, folders, name):
         """A `use` of the code, of one thing."""
         crate, *files = folders
         whole, _, short = name.partition(' as ')
-        self.names[short or whole] = (f'{self.crate if crate == "crate" else crate}/src/{"/".join(files) or "lib"}', whole)
+        self.code_names[short or whole] = (f'{self.crate if crate == "crate" else crate}/src/{"/".join(files) or "lib"}', whole)
 
     def use(self, path, names, alias):
         """A `use` of names of a page, or of a page as an alias."""
@@ -144,13 +193,15 @@ class Page:
                 files = rest[2:-2] if prefix else rest[2:-1]
                 rest = ['src', *(files or ['lib'])]
             page = '/'.join([crate, *rest])
+            if page in ('core/src/option', 'core/src/result'):
+                page, prefix = PRELUDE, ''
         if alias:
             self.aliases[alias] = (page, prefix)
         for name in (names or '').split(','):
             whole, _, short = name.strip().partition(' as ')
             if whole:
                 home = PASSED_ON.get(whole, page) if page in COMMON else page
-                self.names[(short or whole).strip('◌')] = (home, prefix + whole)
+                self.named((short or whole).strip('◌'), (home, prefix + whole))
 
     def read(self):
         """The sections and items of a page of definitions or theorems."""
@@ -202,16 +253,24 @@ class Page:
         return [' '.join(line.split()) for line in (lines if apart else [' '.join(lines)])]
 
     def read_code(self):
-        """The enums and structs of a file of code."""
+        """The enums and structs of a file of code, each with its fields, and with its facts: its ghost fields, or the
+        invariant of its model."""
         lines = self.text.splitlines()
         for i, line in enumerate(lines):
-            head = re.match(r'(?:pub )?(?:enum|struct) (\w+)', line)
+            head = re.match(r'( *)(?:pub(?:\([^)]*\))? )?(enum|struct) (\w+)', line)
             if head:
-                end = lines.index('}', i)
-                item = Item(head[1], 'type', True, [])
+                end = i if re.search(r'[;}]$', line) else lines.index(head[1] + '}', i)
+                item = Item(head[3], 'type', True, [])
                 item.lines = [k for k in range(i, end + 1) if not lines[k].strip().startswith('//')]
-                item.parts = [re.sub(r'\w+: ', '', ' '.join(lines[k].split())) for k in item.lines[1:]]
+                text = '\n'.join(lines[k] for k in item.lines)
+                text = re.sub(r'<[^<>]*>', '', line[head.end():], count=1) + text[len(line):]
+                item.read_fields(head[2], text)
+                item.parts = [re.sub(r'\w+: ', '', re.sub(r'[<>&]', ' ', ' '.join(lines[k].split()))) for k in item.lines[1:] or [i]]
                 self.items[item.name] = item
+        for i, line in enumerate(lines):
+            model = re.match(r'( *)impl.*\bModel for (\w+)', line)
+            if model and model[2] in self.items and re.search(r'^ *ghost invariant\b', '\n'.join(lines[i:lines.index(model[1] + '}', i)]), re.M):
+                self.items[model[2]].facts.append('invariant')
 
     def is_named(self, word):
         """Whether a word is a name or an alias of this page, and no variable."""
@@ -221,8 +280,10 @@ class Page:
         """Where a name of this page comes from, and its name there; None for what is no name or the language's own."""
         if word in self.items or word in self.parents or f'◌{word}◌' in self.items:
             return (self.name, word)
-        if word in self.names:
-            return self.names[word]
+        if word in self.names or word in self.code_names:
+            return self.names.get(word) or self.code_names[word]
+        if word in ALWAYS and self.path.endswith('.rt'):
+            return ALWAYS[word]
         head, dot, tail = word.partition('.')
         if head and dot and head in self.aliases:
             page, prefix = self.aliases[head]
@@ -233,42 +294,168 @@ class Page:
         return None
 
 
-class Function:
-    """A function of the code: its page, whether it is public and for C, its parameters with their types, the type of
-    its result, and its promises: the name of each and its words, in which `result` is the result."""
+class Block:
+    """An `impl` or a trait of the code: its lines, the type or the trait of which it is, the trait that it is an `impl`
+    of, its type parameters, and the ghost members that it declares or gives."""
 
-    def __init__(self, page, head, signature):
-        self.page, self.crate, self.public, self.for_c, self.name = page, page.crate, bool(head[1]), bool(head[2]), head[3]
-        parts = re.match(r'[^(]*\((.*)\)(?: -> (.*))?$', ' '.join(signature.split()))
-        self.parameters = dict(re.findall(r"(\w+): ([^,]+)", parts[1])) if parts else {}
-        self.result = parts[2] if parts else None
-        self.requires, self.ensures, self.unread = False, [], not parts
+    def __init__(self, head, lines, start, end):
+        self.start, self.end, self.indent = start, end, len(head[1])
+        body = next(k for k in range(start, end + 1) if lines[k].endswith('{') or lines[k].endswith('{}'))
+        text = ' '.join(' '.join(lines[start:body + 1]).split()).rstrip('{} ').split(' where ')[0]
+        self.is_trait, rest = head[2] == 'trait', text.split(head[2], 1)[1].strip()
+        self.public, self.generics, self.trait = bool(head[0].strip().startswith('pub ')), ['Self'] if head[2] == 'trait' else [], None
+        if not self.is_trait and rest.startswith('<'):
+            inside, rest = bracketed(rest)
+            self.generics += parameter_names(inside)
+        if self.is_trait:
+            self.type, _, rest = rest.partition(':')
+            self.generics += parameter_names(bracketed(self.type[self.type.index('<'):])[0]) if '<' in self.type else []
+        else:
+            trait, is_of, kind = rest.rpartition(' for ')
+            self.trait, self.type = (trait.strip() if is_of else None), kind.strip()
+        self.owner = base(self.type)
+        inner = range(body + 1, end)
+        self.ghosts = [found[1] for k in inner for found in [re.match(rf' {{{self.indent + 4}}}(?:pub )?ghost (\w+)', lines[k])] if found and found[1] != 'use']
+
+
+def parameter_names(text):
+    """The type and const parameters between < and >, without lifetimes."""
+    names = [re.match(r"(?:const )?('?\w+)", part)[1] for part in apart(text)]
+    return [name for name in names if not name.startswith("'")]
+
+
+def base(kind):
+    """The last name of a type's path: Question of &'a pack::Question<'a>."""
+    found = re.match(r"(?:&(?:'\w+ )?(?:mut )?)*(?:\w+::)*(\w+)", kind)
+    return found[1] if found else kind
+
+
+class Function:
+    """A function of the code: its page, whether it is public and for C, its block, its parameters with their types, the
+    type of its result, its type parameters and ghost values, and its promises: the name of each and its words, in which
+    `result` is the result. Its path is its name, behind that of its type where it is a method; of the `impl` of a trait it
+    has the trait's clauses too, and is not public itself."""
+
+    def __init__(self, page, head, block, signature):
+        self.page, self.crate, self.block, self.for_c, self.name = page, page.crate, block, bool(head[3]), head[4]
+        of_trait = block and block.trait
+        self.public = bool(head[2] and head[2].strip() == 'pub') or bool(block and block.is_trait and block.public)
+        self.path = self.name if not block else f'<{block.type} as {of_trait}>::{self.name}' if of_trait else f'{block.owner}::{self.name}'
+        self.generics, self.parameters, self.result, self.unread = list(block.generics) if block else [], {}, None, False
+        self.requires, self.ensures, self.ghosts, self.body = False, [], [], ''
+        try:
+            self.read(' '.join(signature.split()).split(f'fn {self.name}', 1)[1].strip())
+        except (ValueError, TypeError, IndexError):
+            self.unread = True
+
+    def read(self, text):
+        """The signature behind the name."""
+        if text.startswith('<'):
+            inside, text = bracketed(text)
+            self.generics += parameter_names(inside)
+        inside, rest = bracketed(text)
+        rest = re.split(r'(?:^| )where ', rest)[0].strip()
+        self.result = rest.removeprefix('->').strip() or None
+        own = self.block.type if self.block and not self.block.is_trait else 'Self'
+        for part in apart(inside):
+            taken = re.fullmatch(r"(?:(&(?:'\w+ )?(?:mut )?)|mut )?self", part)
+            name, _, kind = ('self', '', (taken[1] or '') + 'Self') if taken else re.sub(r'^mut ', '', part).partition(': ')
+            self.parameters[name] = re.sub(r'\bSelf\b', own, kind)
+        self.result = self.result and re.sub(r'\bSelf\b', own, self.result)
+
+
+@functools.cache
+def blocks(page):
+    """The impls and traits of a file of code."""
+    found, lines = [], page.text.splitlines()
+    for i, line in enumerate(lines):
+        head = re.match(r'( *)(?:pub(?:\([^)]*\))? )?(?:unsafe )?(impl|trait)\b', line)
+        if head:
+            end = i if line.endswith('{}') else lines.index(head[1] + '}', i)
+            found.append(Block(head, lines, i, end))
+    return found
 
 
 @functools.cache
 def functions(page):
-    """The functions of a file of code."""
+    """The functions and methods of a file of code."""
     found, lines = [], page.text.splitlines()
     for i, line in enumerate(lines):
-        head = re.match(r'(pub )?(extern "C" )?fn (\w+)', line)
+        head = re.match(r'( *)(pub(?:\([^)]*\))? )?(?:const |unsafe )*(extern "C" )?fn (\w+)', line)
         if not head:
             continue
-        body, clauses = i, []
-        while lines[body] != '{' and not (not clauses and re.search(r' \{\}?$', lines[body])):
-            clauses += [body] if re.match(r'    (ghost|requires|ensures)\b', lines[body]) else []
+        indent, body, clauses = head[1], i, []
+        while lines[body] != indent + '{' and not (not clauses and re.search(r' \{\}?$', lines[body])) and not lines[body].endswith(';'):
+            clauses += [body] if re.match(rf'{indent}    (ghost|requires|ensures)\b', lines[body]) else []
+            body += 1
+        if lines[body].endswith(';'):
+            clauses += [body] if re.match(rf'{indent}    (ghost|requires|ensures)\b', lines[body]) else []
             body += 1
         clauses.append(body)
-        function = Function(page, head, re.sub(r' \{\}?$', '', '\n'.join(lines[i:max(clauses[0], i + 1)])))
+        around = [block for block in blocks(page) if block.start < i < block.end]
+        function = Function(page, head, around[-1] if around else None, re.sub(r'( \{\}?|;)$', '', '\n'.join(lines[i:max(clauses[0], i + 1)])))
         for start, end in zip(clauses, clauses[1:]):
-            text = ' '.join(' '.join(lines[start:end]).split())
+            text = ' '.join(' '.join(lines[start:end]).split()).removesuffix(';')
             promise = re.fullmatch(r'ensures ?(\w*) \{ (.*) \}', text)
             if promise:
                 function.ensures.append(promise.groups())
             elif text.startswith('ensures'):
                 function.unread = True
             function.requires |= text.startswith('requires')
+            function.ghosts += re.findall(r'^ghost (\w+):', text)
+        if not lines[body - 1].endswith(';') and not lines[body].endswith('{}'):
+            function.body = '\n'.join(re.sub(r'(^|\s)//.*', '', row) for row in lines[body:lines.index(indent + '}', body)])
         found.append(function)
     return found
+
+
+def home(place, every):
+    """Where a name stands that a page of code only hands on (`pub use`)."""
+    seen = set()
+    while place and place[0] in every and place not in seen:
+        seen.add(place)
+        page, name = every[place[0]], place[1].split('.')[0]
+        if name in page.items or name not in page.code_names:
+            break
+        place = (page.code_names[name][0], page.code_names[name][1] + place[1][len(name):])
+    return place
+
+
+def type_of(kind, page, every):
+    """The struct or enum of the code that a type is, with its page, or None."""
+    path = re.match(r"((?:\w+::)*)(\w+)", kind)
+    if not path:
+        return None
+    folders = path[1].split('::')[:-1]
+    if folders:
+        first = page.code_names.get(folders[0])
+        crate = page.crate if folders[0] == 'crate' else folders[0]
+        where = f'{first[0].removesuffix("/lib")}/{first[1]}' if first else f'{crate}/src'
+        place = ('/'.join([where, *folders[1:]]) if first or folders[1:] else f'{where}/lib', path[2])
+    else:
+        place = (page.name, path[2]) if path[2] in page.items else page.code_names.get(path[2])
+    place = home(place, every)
+    found = place and place[0] in every and every[place[0]]
+    return (found, found.items[place[1]]) if found and found.path.endswith('.rt') and place[1] in found.items else None
+
+
+def struct_of(kind, page, every):
+    """The struct of the code that a type is, with its page, or None."""
+    found = type_of(kind, page, every)
+    return found if found and found[1].fields is not None else None
+
+
+def types_in(kind, page, every):
+    """All structs and enums of the code that a value of a type has in it, as pairs of page and item."""
+    found, todo = {}, [(page, kind)]
+    while todo:
+        page, kind = todo.pop()
+        for path in re.findall(r'(?:\w+::)*[A-Z]\w*', kind):
+            one = type_of(path, page, every)
+            if one and (one[0].name, one[1].name) not in found:
+                found[one[0].name, one[1].name] = one
+                todo += [(one[0], part) for part in one[1].parts]
+    return list(found.values())
 
 
 def builds(place, every):

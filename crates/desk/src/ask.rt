@@ -6,11 +6,10 @@ ghost use Rattle.pack.specs.Question.{GivesQuestion};
 ghost use Rattle.engine.specs.Verdict.{GivesVerdict};
 ghost use Rattle.writer.specs.Sheet.{GivesSheet};
 
-use crate::code::{checked_code, sheet_code, unread_code, verdict_code};
 use engine::verdict::verdict;
-use pack::bytes::read_marks;
 use pack::check::check_pack;
-use pack::question::check_question;
+use pack::question::Question;
+use pack::told::coded;
 use writer::write::write_sheet;
 
 // The pack check for C.
@@ -18,7 +17,7 @@ use writer::write::write_sheet;
 pub extern "C" fn noolukask_check_pack(n: u64, m: u64, pack: &[u8]) -> u64
     ensures { GivesPack n m pack.now (result % 256) (result / 256) }
 {
-    checked_code(check_pack(n as usize, m as usize, pack))
+    coded::<256, _>(&check_pack(n as usize, m as usize, pack))
 }
 
 // The question check for C.
@@ -33,11 +32,9 @@ pub extern "C" fn noolukask_check_question<'a>(
 ) -> u64
     ensures { GivesQuestion n m pack.now (marks_in marks.now) a b (result % 256) (result / 256) }
 {
-    if marks.len() != 128 {
-        return unread_code(n, m, pack, a, b);
-    }
-    let words = read_marks(marks);
-    checked_code(check_question(n as usize, m as usize, pack, &words, a as usize, b as usize))
+    let mut words = [0; 16];
+    let question = Question::from_c(n, m, pack, marks, &mut words, a, b);
+    coded::<256, _>(&question.check())
 }
 
 // The verdict for C.
@@ -52,11 +49,9 @@ pub extern "C" fn noolukask_verdict<'a>(
 ) -> u64
     ensures { GivesVerdict n m pack.now (marks_in marks.now) a b (result % 256) (result / 256) }
 {
-    if marks.len() != 128 {
-        return unread_code(n, m, pack, a, b);
-    }
-    let words = read_marks(marks);
-    verdict_code(verdict(n as usize, m as usize, pack, &words, a as usize, b as usize))
+    let mut words = [0; 16];
+    let question = Question::from_c(n, m, pack, marks, &mut words, a, b);
+    coded::<256, _>(&verdict(&question))
 }
 
 // The sheet writer for C.
@@ -72,11 +67,7 @@ pub extern "C" fn noolukask_write_sheet<'a>(
 ) -> u64
     ensures { GivesSheet n m pack.now (marks_in marks.now) a b sheet.old sheet.new (result % 256) (result / 256) }
 {
-    if marks.len() != 128 {
-        return unread_code(n, m, pack, a, b);
-    }
-    let words = read_marks(marks);
-    sheet_code(write_sheet(
-        n as usize, m as usize, pack, &words, a as usize, b as usize, sheet,
-    ))
+    let mut words = [0; 16];
+    let question = Question::from_c(n, m, pack, marks, &mut words, a, b);
+    coded::<256, _>(&write_sheet(&question, sheet))
 }

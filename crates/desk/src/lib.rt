@@ -1,6 +1,5 @@
-// The calls for C, on numbers and byte slices: each is the Rattle call of its name, and an encoding of what it answers.
+// The calls for C, on numbers and byte slices: each is the Rattle call of its name, and its answer's number and value in one word.
 #![tactic(auto)]
 
 pub mod ask;
-pub mod code;
 pub mod reason;

@@ -1,34 +1,28 @@
 // The module and the printed set for C, the marks in and out as 128 bytes.
-ghost use Rattle.std.specs.Prelude.{◌≡◌, not, ◌||◌, ◌/◌, ◌%◌, eqb, length};
-ghost use Rattle.desk.specs.Desk.{desk_code, GivesModuleC, GivesSetC};
+ghost use Rattle.std.specs.Prelude.{◌≡◌, cond, eqb, ◌/◌, ◌%◌, length, IsOk, is_ok};
+ghost use Rattle.desk.specs.Desk.{GivesModuleC, GivesSetC};
 ghost use Rattle.desk.specs.Inner.{PutFound};
-ghost use Rattle.pack.specs.Answers.{checked_told};
-ghost use Rattle.reasons.specs.Set.{set_told};
 
-use crate::code::{desk_code, unread_code};
-use pack::bytes::{read_marks, write_marks};
-use pack::check::{Checked, refusal_number, refusal_place};
+use pack::bytes::write_marks;
+use pack::question::Question;
+use pack::told::{Told, coded};
 use reasons::module::module_for;
-use reasons::set::{SetAnswer, printed_set};
+use reasons::set::printed_set;
 
-// Are the marks in or the out marks not 128 bytes?
-fn unread(marks: usize, out: usize) -> bool
-    ensures { result ≡ (not (eqb marks 128) || not (eqb out 128)) }
+// How many words are lent for the out marks of so many bytes: 16 for 128, and none for any other number, which is MARKS.
+fn words_for(out: usize) -> usize
+    ensures { result ≡ cond (eqb out 128) 16 0 }
 {
-    (marks != 128) | (out != 128)
+    if out == 128 { 16 } else { 0 }
 }
 
-// What the module call returns; where nothing is refused, the words that were found go into the out marks.
-fn module_code(answer: Checked, found: &[u64; 16], out: &mut [u8]) -> u64
-    requires { (length found.now ≡ 16) × (length out.old ≡ 128) }
-    ensures { (result ≡ desk_code (checked_told answer).0 (checked_told answer).1) × PutFound (checked_told answer).0 found.now out.old out.new }
+// The words that were found go into the out marks, where nothing is refused.
+fn put_found(number: u32, found: &[u64; 16], out: &mut [u8])
+    requires { (length found.now ≡ 16) × (number ≡ 0 → length out.old ≡ 128) }
+    ensures { PutFound number found.now out.old out.new }
 {
-    match answer {
-        Checked::Refused(why) => desk_code(refusal_number(why), refusal_place(why)),
-        Checked::Count(count) => {
-            write_marks(found, out);
-            desk_code(0, count)
-        }
+    if number == 0 {
+        write_marks(found, out);
     }
 }
 
@@ -44,29 +38,13 @@ pub extern "C" fn noolukask_module<'a>(
 ) -> u64
     ensures { GivesModuleC n m pack.now marks.now a out.old out.new (result % 256) (result / 256) }
 {
-    if unread(marks.len(), out.len()) {
-        return unread_code(n, m, pack, a, a);
-    }
-    let words = read_marks(marks);
-    let mut found = [0u64; 16];
-    let answer = module_for(n as usize, m as usize, pack, &words, a as usize, &mut found);
-    module_code(answer, &found, out)
-}
-
-// What the printed set's call returns; where nothing is refused, the words that were found go into the out marks.
-fn set_code(answer: SetAnswer, found: &[u64; 16], out: &mut [u8]) -> u64
-    requires { (length found.now ≡ 16) × (length out.old ≡ 128) }
-    ensures { (result ≡ desk_code (set_told answer).0 (set_told answer).1) × PutFound (set_told answer).0 found.now out.old out.new }
-{
-    match answer {
-        SetAnswer::Refused(why) => desk_code(refusal_number(why), refusal_place(why)),
-        SetAnswer::TooLong => desk_code(6, 0),
-        SetAnswer::NotFollows => desk_code(7, 0),
-        SetAnswer::Count(count) => {
-            write_marks(found, out);
-            desk_code(0, count)
-        }
-    }
+    let mut words = [0; 16];
+    let question = Question::from_c(n, m, pack, marks, &mut words, a, a);
+    let mut found = [0; 16];
+    let lent = words_for(out.len());
+    let module = module_for(&question, &mut found[..lent]);
+    put_found(module.number(), &found, out);
+    coded::<256, _>(&module)
 }
 
 // The printed set for C.
@@ -82,13 +60,11 @@ pub extern "C" fn noolukask_printed_set<'a>(
 ) -> u64
     ensures { GivesSetC n m pack.now marks.now a b out.old out.new (result % 256) (result / 256) }
 {
-    if unread(marks.len(), out.len()) {
-        return unread_code(n, m, pack, a, b);
-    }
-    let words = read_marks(marks);
-    let mut found = [0u64; 16];
-    let answer = printed_set(
-        n as usize, m as usize, pack, &words, a as usize, b as usize, &mut found,
-    );
-    set_code(answer, &found, out)
+    let mut words = [0; 16];
+    let question = Question::from_c(n, m, pack, marks, &mut words, a, b);
+    let mut found = [0; 16];
+    let lent = words_for(out.len());
+    let set = printed_set(&question, &mut found[..lent]);
+    put_found(set.number(), &found, out);
+    coded::<256, _>(&set)
 }

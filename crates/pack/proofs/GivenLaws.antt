@@ -7,13 +7,12 @@ use Prim.Native.Nat.{ℕ, ◌≤◌, ◌<◌}
 use native.Mathlib.Decide.{dec_lt}
 use native.Mathlib.Omega.{arith}
 use lib.Dec.{eqb}
+use Rattle.std.specs.Prelude.{Result, Ok, Err}
 use Rattle.bits.specs.Sets.{lowest}
 use Rattle.bits.proofs.Truth.{never}
 use Rattle.bits.proofs.SetLaws.{first_is, first_none}
 use Rattle.pack.specs.declared.check.Refusal.{Refusal}
 use Rattle.pack.specs.declared.check.Refusal.TheVariants.{Sizes, Pack, Record, Marks, Goal}
-use Rattle.pack.specs.declared.check.Checked.{Checked}
-use Rattle.pack.specs.declared.check.Checked.TheVariants.{Refused, Count}
 use Rattle.pack.specs.Computed.{refusal_number, refusal_place, checked_number, checked_value}
 use Rattle.pack.specs.Table.{Row, refuse_with, refuse_at, Gives, Given}
 
@@ -91,16 +90,16 @@ refusal_some Goal = omega arith
 
 -- AFTER THE QUESTION CHECK: a call that hands its refusal on, and else goes by further rows, gives what the table says with these behind
 module _ (kept : Type 0) (otherwise : ℕ → Type 0) {k v : ℕ} where
-  pub given_after : (rows more : List Row) (count : ℕ) → Numbered rows → (c : Checked) → Given (Unit {0}) rows (λ value. value ≡ count) (checked_number c) (checked_value c)
-      → ((why : Refusal) → c ≡ Refused why → (k ≡ refusal_number why) × (v ≡ refusal_place why) × kept)
-      → ((j : ℕ) → c ≡ Count j → Given kept more otherwise k v)
+  pub given_after : (rows more : List Row) (count : ℕ) → Numbered rows → (c : Result ℕ Refusal) → Given (Unit {0}) rows (λ value. value ≡ count) (checked_number c) (checked_value c)
+      → ((why : Refusal) → c ≡ Err why → (k ≡ refusal_number why) × (v ≡ refusal_place why) × kept)
+      → ((j : ℕ) → c ≡ Ok j → Given kept more otherwise k v)
       → Given kept (rows ++ more) otherwise k v
-  given_after [] more count n (Count j) g refused taken = taken j refl
-  given_after [] more count n (Refused why) g refused taken = absurd (omega (arith, refusal_some why, g.0))
-  given_after (row ∷ rows) more count n (Count j) (inl g) refused taken = absurd (omega (arith, n.0, gives_number row 0 j g.0))
-  given_after (row ∷ rows) more count n (Refused why) (inl g) refused taken = let r = refused why refl in inl (rw (r.0, r.1) g.0, r.2)
-  given_after (row ∷ rows) more count n (Count j) (inr g) refused taken = inr (g.0, given_after rows more count n.1 (Count j) g.1 refused taken)
-  given_after (row ∷ rows) more count n (Refused why) (inr g) refused taken = inr (g.0, given_after rows more count n.1 (Refused why) g.1 refused taken)
+  given_after [] more count n (Ok j) g refused taken = taken j refl
+  given_after [] more count n (Err why) g refused taken = absurd (omega (arith, refusal_some why, g.0))
+  given_after (row ∷ rows) more count n (Ok j) (inl g) refused taken = absurd (omega (arith, n.0, gives_number row 0 j g.0))
+  given_after (row ∷ rows) more count n (Err why) (inl g) refused taken = let r = refused why refl in inl (rw (r.0, r.1) g.0, r.2)
+  given_after (row ∷ rows) more count n (Ok j) (inr g) refused taken = inr (g.0, given_after rows more count n.1 (Ok j) g.1 refused taken)
+  given_after (row ∷ rows) more count n (Err why) (inr g) refused taken = inr (g.0, given_after rows more count n.1 (Err why) g.1 refused taken)
 
 -- AN ANSWER IS TOLD BY ITS NUMBER AND VALUE
 module _ {A : Type 0} (number value : A → ℕ) (answer_of : ℕ → ℕ → A) (back : (x : A) → answer_of (number x) (value x) ≡ x) where
@@ -110,17 +109,17 @@ module _ {A : Type 0} (number value : A → ℕ) (answer_of : ℕ → ℕ → A)
 unfoldable pub refusal_of : ℕ → ℕ → Refusal
 refusal_of k i = cond (eqb k 1) Sizes (cond (eqb k 2) Pack (cond (eqb k 3) (Record i) (cond (eqb k 4) Marks Goal)))
 
-pub checked_told_lem : (x y : Checked) → checked_number x ≡ checked_number y → checked_value x ≡ checked_value y → x ≡ y
+pub checked_told_lem : (x y : Result ℕ Refusal) → checked_number x ≡ checked_number y → checked_value x ≡ checked_value y → x ≡ y
 unfolding refusal_of
 checked_told_lem = told checked_number checked_value checked_of back
   where
-    checked_of : ℕ → ℕ → Checked
-    checked_of k v = cond (eqb k 0) (Count v) (Refused (refusal_of k v))
+    checked_of : ℕ → ℕ → Result ℕ Refusal
+    checked_of k v = cond (eqb k 0) (Ok v) (Err (refusal_of k v))
 
-    back : (x : Checked) → checked_of (checked_number x) (checked_value x) ≡ x
-    back (Refused Sizes) = refl
-    back (Refused Pack) = refl
-    back (Refused (Record i)) = refl
-    back (Refused Marks) = refl
-    back (Refused Goal) = refl
-    back (Count k) = refl
+    back : (x : Result ℕ Refusal) → checked_of (checked_number x) (checked_value x) ≡ x
+    back (Err Sizes) = refl
+    back (Err Pack) = refl
+    back (Err (Record i)) = refl
+    back (Err Marks) = refl
+    back (Err Goal) = refl
+    back (Ok k) = refl

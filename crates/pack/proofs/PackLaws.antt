@@ -7,10 +7,10 @@ use native.Mathlib.Omega.{arith}
 use lib.Dec.{ltb, leb, eqb}
 use lib.ListN.{length}
 use borrow.Author.Tests.{ltb-false, leb-true, eqb-true, lt-ltb, le-ltb, le-leb, eq-eqb, not-false}
+use Rattle.std.specs.Prelude.{Ok, Err}
 use Rattle.bits.proofs.SetLaws.{lowest_at, first_none}
 use Rattle.bits.proofs.Truth.{both_true, clash, cond_first, cond_second}
 use Rattle.pack.specs.declared.check.Refusal.TheVariants.{Record}
-use Rattle.pack.specs.declared.check.Checked.TheVariants.{Refused, Count}
 use Rattle.pack.specs.Record.{keeps_at, record_count}
 use Rattle.pack.specs.Pack.{sizes_fit, length_fits}
 use Rattle.pack.specs.Computed.{lowest_unkept, check_records, check_pack}
@@ -20,11 +20,11 @@ module _ (n m : ℕ) (s : List ℕ) where
   unkept i = not (keeps_at n m s i)
 
   -- the answers of the code: where the search stopped, or that it came to the end
-  pub broken_here : (i : ℕ) → i < record_count s → i ≡ lowest_unkept n m s → Refused (Record i) ≡ check_records n m s
+  pub broken_here : (i : ℕ) → i < record_count s → i ≡ lowest_unkept n m s → Err (Record i) ≡ check_records n m s
   unfolding check_records
   broken_here i h e = rw (← e, lt-ltb i (record_count s) h)
 
-  pub broken_none : (i : ℕ) → record_count s ≤ i → i ≡ lowest_unkept n m s → Count (record_count s) ≡ check_records n m s
+  pub broken_none : (i : ℕ) → record_count s ≤ i → i ≡ lowest_unkept n m s → Ok (record_count s) ≡ check_records n m s
   unfolding check_records
   broken_none i h e = rw (← e, le-ltb i (record_count s) h)
 
@@ -39,7 +39,7 @@ module _ (n m : ℕ) (s : List ℕ) where
     pub count : k ≡ record_count s
 
   -- THE COUNT IS GIVEN exactly when every rule is kept
-  pub accepted : {k : ℕ} → check_pack n m s ≡ Count k → Accepted k
+  pub accepted : {k : ℕ} → check_pack n m s ≡ Ok k → Accepted k
   unfolding check_pack check_records
   accepted {k} e =
       let p = cond_first (sizes_fit n m) e (λ q. clash cc) in
@@ -59,7 +59,7 @@ module _ (n m : ℕ) (s : List ℕ) where
         count = cc;
       }
 
-  pub accepts : {k : ℕ} → Accepted k → check_pack n m s ≡ Count k
+  pub accepts : {k : ℕ} → Accepted k → check_pack n m s ≡ Ok k
   unfolding check_pack check_records
   accepts {k} a =
       let none : record_count s ≡ lowest_unkept n m s =

@@ -1,11 +1,9 @@
 -- The answers of the two checks and the test of a world, as they are worked out. Only functions that docs/PROMISES.md lists
 -- as inner cite this page; that it says what the pages Pack, Question and World mean is proved (GivenLaws, WorldLaws).
-use Rattle.std.specs.Prelude.{◌≡◌, Bool, true, cond, not, ◌&&◌, ◌||◌, List, ℕ, ltb}
+use Rattle.std.specs.Prelude.{◌≡◌, Bool, true, cond, not, ◌&&◌, ◌||◌, List, ℕ, ltb, Result, Ok, Err}
 use Rattle.bits.specs.Sets.{lowest, every, some}
 use Rattle.marks.specs.Marks.{marks_fit}
 use Rattle.pack.specs.declared.check.Refusal.TheVariants.{Sizes, Pack, Record, Marks, Goal}
-use Rattle.pack.specs.declared.check.Checked.{Checked}
-use Rattle.pack.specs.declared.check.Checked.TheVariants.{Refused, Count}
 use Rattle.pack.specs.declared.line.Line.{Line}
 use Rattle.pack.specs.declared.line.Line.TheVariants.{Under, BothUnder, UnderSome, SomeUnder, RoleUnder, ChainUnder, ToItself, NoLine}
 use Rattle.pack.specs.Record.{keeps_at, record_count}
@@ -20,38 +18,38 @@ abbrev pub lowest_unkept : ℕ → ℕ → List ℕ → ℕ
 lowest_unkept n m s = lowest (λ i. not (keeps_at n m s i)) 0 (record_count s)
 
 -- 3 RECORD with the lowest place, else the record count
-unfoldable pub check_records : ℕ → ℕ → List ℕ → Checked
+unfoldable pub check_records : ℕ → ℕ → List ℕ → Result ℕ Refusal
 check_records n m s =
     cond (ltb (lowest_unkept n m s) (record_count s))
-    (Refused (Record (lowest_unkept n m s)))
-    (Count (record_count s))
+    (Err (Record (lowest_unkept n m s)))
+    (Ok (record_count s))
 
 -- 1 SIZES, 2 PACK, 3 RECORD, else the record count
-unfoldable pub check_pack : ℕ → ℕ → List ℕ → Checked
+unfoldable pub check_pack : ℕ → ℕ → List ℕ → Result ℕ Refusal
 check_pack n m s =
     cond (sizes_fit n m)
-    (cond (length_fits s) (check_records n m s) (Refused Pack))
-    (Refused Sizes)
+    (cond (length_fits s) (check_records n m s) (Err Pack))
+    (Err Sizes)
 
 -- 4 MARKS unless they fit, 5 GOAL, else the record count
-abbrev pub check_counted : ℕ → ℕ → Bool → ℕ → ℕ → Checked
+abbrev pub check_counted : ℕ → ℕ → Bool → ℕ → ℕ → Result ℕ Refusal
 check_counted n count fit a b =
     cond fit
-    (cond (goal_fits n a b) (Count count) (Refused Goal))
-    (Refused Marks)
+    (cond (goal_fits n a b) (Ok count) (Err Goal))
+    (Err Marks)
 
 -- after the pack check, where the marks fit the pack or do not
-abbrev pub after_pack : Checked → ℕ → Bool → ℕ → ℕ → Checked
-after_pack (Refused why) n fit a b = Refused why
-after_pack (Count count) n fit a b = check_counted n count fit a b
+abbrev pub after_pack : Result ℕ Refusal → ℕ → Bool → ℕ → ℕ → Result ℕ Refusal
+after_pack (Err why) n fit a b = Err why
+after_pack (Ok count) n fit a b = check_counted n count fit a b
 
 -- 1 to 5, else the record count
-unfoldable pub check_question : ℕ → ℕ → List ℕ → List ℕ → ℕ → ℕ → Checked
+unfoldable pub check_question : ℕ → ℕ → List ℕ → List ℕ → ℕ → ℕ → Result ℕ Refusal
 check_question n m s ws a b = after_pack (check_pack n m s) n (marks_fit ws (record_count s)) a b
 
 -- the question is admitted: it is answered with a count
 abbrev pub Admitted : ℕ → ℕ → List ℕ → List ℕ → ℕ → ℕ → Type 0
-Admitted n m s ws a b = (k : ℕ) × (check_question n m s ws a b ≡ Count k)
+Admitted n m s ws a b = (k : ℕ) × (check_question n m s ws a b ≡ Ok k)
 
 -- a world is tested line by line and thing by thing: its things are finitely many
 unfoldable pub implies : Bool → Bool → Bool
@@ -77,8 +75,8 @@ refusal_number why = (refusal_told why).0
 abbrev pub refusal_place : Refusal → ℕ
 refusal_place why = (refusal_told why).1
 
-abbrev pub checked_number : Checked → ℕ
+abbrev pub checked_number : Result ℕ Refusal → ℕ
 checked_number r = (checked_told r).0
 
-abbrev pub checked_value : Checked → ℕ
+abbrev pub checked_value : Result ℕ Refusal → ℕ
 checked_value r = (checked_told r).1

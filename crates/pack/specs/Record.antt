@@ -3,6 +3,7 @@ use Rattle.std.specs.Prelude.{Bool, false, cond, ◌&&◌, List, ℕ, ◌/◌, �
 use Rattle.bits.specs.Lists.{listed}
 use Rattle.pack.specs.declared.line.Line.{Line}
 use Rattle.pack.specs.declared.line.Line.TheVariants.{Under, BothUnder, UnderSome, SomeUnder, RoleUnder, ChainUnder, ToItself, NoLine}
+use Rattle.pack.specs.declared.line.Fields.{Fields}
 use Rattle.pack.specs.Bytes.{part}
 use Rattle.pack.specs.World.{line_at}
 
@@ -29,6 +30,10 @@ keeps n m kind a b c =
     (cond (eqb kind 6) (ltb a m && ltb b m && ltb c m)
     (cond (eqb kind 7) (ltb a m && eqb b 0 && eqb c 0)
     false))))))
+
+-- the fields in an 8-byte part: the kind, a, b and c
+unfoldable pub fields_in : List ℕ → Fields
+fields_in p = record { kind = get_or p 0 0; a = get_or p 1 0; b = get_or p 2 0; c = get_or p 3 0 }
 
 -- the line in an 8-byte part, and whether the part keeps the rules
 unfoldable pub line_in : List ℕ → Line

@@ -5,3 +5,5 @@ pub mod bytes;
 pub mod check;
 pub mod line;
 pub mod question;
+pub mod taken;
+pub mod told;

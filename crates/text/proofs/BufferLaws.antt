@@ -1,12 +1,15 @@
 -- Laws of bytes put into a buffer: its length stays, and what is put one behind the other is put in one.
 use mathlib.Core.Path.{◌≡◌, refl, sym, ap, ap₂, ◌∙◌}
-use mathlib.Core.List.{List, [], ◌∷◌, ◌++◌}
-use Prim.Native.Nat.{ℕ, suc, ◌+◌, ◌≤◌, ◌<◌}
+use mathlib.Core.List.{List, [], ◌∷◌, ◌++◌, append_assoc}
+use Prim.Native.Nat.{ℕ, suc, ◌+◌, ◌-◌, ◌≤◌}
 use native.Mathlib.Numerals.{add-one}
 use native.Mathlib.Omega.{arith}
-use lib.ListN.{length, take, drop, set, get_or, length-set, length-append}
-use lib.Seq.{sets, sets-eq, take-suc, take_all, take_at}
+use lib.ListN.{length, take, drop, set, length-set, length-append}
+use lib.Seq.{sets, sets-eq, take_at, drop-drop}
+use borrow.Rule.Slice.PartMut.{put_mid}
+use Rattle.text.specs.declared.line.Text.{Text}
 use Rattle.text.specs.Buffer.{put, Wrote}
+use Rattle.text.specs.Inner.{Added}
 
 pub put_length : (buffer : List ℕ) (at : ℕ) (bytes : List ℕ) → length (put buffer at bytes) ≡ length buffer
 unfolding put
@@ -34,15 +37,16 @@ wrote_front bytes before {after} {end} h f =
     let room : 0 + length bytes ≤ length before = omega arith in
     rw (e, f.buffer, put_is before 0 bytes room) (take_at bytes (drop (0 + length bytes) before) (length bytes) refl)
 
--- one byte, none, and one text behind another
+-- none, one word in one copy, and one text behind another
 module _ {before : List ℕ} {at : ℕ} where
   pub wrote_none : Wrote [] before at before at
   unfolding put
   wrote_none = record { behind = omega arith; buffer = refl }
 
-  pub wrote_byte : {b : ℕ} → Wrote (b ∷ []) before at (set before at b) (at + 1)
-  unfolding put
-  wrote_byte = record { behind = refl; buffer = refl }
+  pub wrote_word : {word part : List ℕ} → part ≡ word → at + length word ≤ length before → Wrote word before at (put_mid at (at + length word - at) before part) (at + length word)
+  wrote_word {word} e h =
+      let n : at + length word - at ≡ length word = omega arith in
+      record { behind = refl; buffer = rw (e, n, put_is before at word h, drop-drop (length word) at before, append_assoc) refl }
 
   pub wrote_then : {xs ys between after : List ℕ} {middle end : ℕ} → Wrote xs before at between middle → Wrote ys between middle after end → Wrote (xs ++ ys) before at after end
   wrote_then {xs} {ys} {between} {after} {middle} {end} f g =
@@ -52,13 +56,6 @@ module _ {before : List ℕ} {at : ℕ} where
         buffer = g.buffer ∙ ap₂ (λ (l : List ℕ) (k : ℕ). put l k ys) f.buffer f.behind ∙ sym (put_append before at xs ys);
       }
 
--- of a word that is put in byte by byte, one byte more
-pub wrote_on : {before : List ℕ} {at : ℕ} (word : List ℕ) (i : ℕ) {now : List ℕ} → i < length word → Wrote (take i word) before at now (at + i) → Wrote (take (i + 1) word) before at (set now (at + i) (get_or word i 0)) (at + (i + 1))
-wrote_on {before} {at} word i {now} h f =
-    let e : at + i + 1 ≡ at + (i + 1) = omega arith in
-    let one : Wrote (take i word ++ (get_or word i 0 ∷ [])) before at (set now (at + i) (get_or word i 0)) (at + (i + 1)) = rw e at (wrote_then f (wrote_byte {b = get_or word i 0})) in
-    let more : take (i + 1) word ≡ take i word ++ (get_or word i 0 ∷ []) = rw add-one (take-suc word i 0 h) in
-    rw more one
-
-pub wrote_all : {before : List ℕ} {at : ℕ} (word : List ℕ) (i : ℕ) {after : List ℕ} {end : ℕ} → length word ≤ i → Wrote (take i word) before at after end → Wrote word before at after end
-wrote_all word i h f = rw (take_all i word h) at f
+-- A TEXT that grows in its buffer: one word behind another
+pub added_then : {xs ys : List ℕ} {before between after : Text} → Added xs before between → Added ys between after → Added (xs ++ ys) before after
+added_then f g = record { written = wrote_then f.written g.written; same_buffer = g.same_buffer ∙ f.same_buffer }

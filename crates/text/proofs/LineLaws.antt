@@ -10,7 +10,9 @@ use Rattle.bits.specs.Sets.{count_to}
 use Rattle.bits.proofs.SetLaws.{count_le, count_same}
 use Rattle.marks.specs.Marks.{marked, marks_of}
 use Rattle.marks.proofs.WordLaws.{marked_of}
+use Rattle.text.specs.declared.line.Text.{Text}
 use Rattle.text.specs.Buffer.{Wrote}
+use Rattle.text.specs.Inner.{Added}
 use Rattle.text.specs.Text.{Outcome, WroteText, decimal, places, number_line, list_line, text_of, letters}
 use Rattle.text.specs.Text.Outcome.{refused, refused_at, follows, not_follows}
 use Rattle.text.proofs.BufferLaws.{put_length, wrote_front}
@@ -19,7 +21,7 @@ use Rattle.text.proofs.PlaceLaws.{places_most, places_same}
 
 -- a count of places has at most 4 digits
 pub count_digits : (P : ℕ → Bool) {n : ℕ} → n ≡ count_to P 1024 → length (decimal n) ≤ 4
-count_digits P {n} e = decimal_most 3 n (omega (arith, count_le P 1024))
+count_digits P {n} e = decimal_most 3 n (omega (arith, count_le P 1024)) (omega (arith, count_le P 1024))
 
 module _ (word : List ℕ) where
   pub number_line_length : (k : ℕ) → length (number_line word k) ≡ length word + length (decimal k) + 1
@@ -32,7 +34,7 @@ module _ (word : List ℕ) where
 
   -- a number of 32 bits has at most 10 digits, a count of places at most 4
   pub number_line_most : (k : ℕ) → k < 2 ^ 32 → length (number_line word k) ≤ length word + 11
-  number_line_most k h = omega (arith, number_line_length k, decimal_most 9 k (omega arith))
+  number_line_most k h = omega (arith, number_line_length k, decimal_most 9 k (omega arith) (omega arith))
 
   pub list_line_most : (P : ℕ → Bool) → length (list_line word P) ≤ length word + 4016
   list_line_most P = omega (arith, list_line_length P, count_digits P refl, places_most P)
@@ -45,13 +47,13 @@ module _ (word : List ℕ) where
   pub list_line_of : (P : ℕ → Bool) → list_line word (marked (marks_of P)) ≡ list_line word P
   list_line_of P = list_line_same (marked (marks_of P)) P (marked_of P)
 
--- how far a line reaches that was written
-module _ {before after : List ℕ} {at end : ℕ} where
-  pub number_line_end : (word : List ℕ) (k : ℕ) → k < 2 ^ 32 → Wrote (number_line word k) before at after end → end ≤ at + (length word + 11)
-  number_line_end word k h f = omega (arith, f.behind, number_line_most word k h)
+-- how far a text reaches that has one line more
+module _ {before after : Text} where
+  pub number_line_end : (word : List ℕ) (k : ℕ) → k < 2 ^ 32 → Added (number_line word k) before after → after.end ≤ before.end + (length word + 11)
+  number_line_end word k h f = omega (arith, f.written.behind, number_line_most word k h)
 
-  pub list_line_end : (word : List ℕ) (P : ℕ → Bool) → Wrote (list_line word P) before at after end → end ≤ at + (length word + 4016)
-  list_line_end word P f = omega (arith, f.behind, list_line_most word P)
+  pub list_line_end : (word : List ℕ) (P : ℕ → Bool) → Added (list_line word P) before after → after.end ≤ before.end + (length word + 4016)
+  list_line_end word P f = omega (arith, f.written.behind, list_line_most word P)
 
 -- THE TEXT FITS 8,192 BYTES where its number is one of 32 bits
 abbrev pub first_number : Outcome → ℕ
@@ -70,6 +72,12 @@ text_fits (not_follows rows M) h = simp length-append (omega (arith, number_line
 
 pub wrote_text : (o : Outcome) {before after : List ℕ} {end : ℕ} → first_number o < 2 ^ 32 → Wrote (text_of o) before 0 after end → WroteText o before after end
 wrote_text o h f = record { text = f; fits = omega (arith, f.behind, text_fits o h) }
+
+-- as a text that begins at the buffer's start, whose last content the buffer keeps
+pub added_text : (o : Outcome) {before after : List ℕ} {empty full : Text} → first_number o < 2 ^ 32 → empty.out.now ≡ before → empty.end ≡ 0 → Added (text_of o) empty full → after ≡ full.out.now → WroteText o before after full.end
+added_text o h e z f g =
+    let w = f.written in
+    wrote_text o h (rw (g, ← e, ← z) w)
 
 -- so in a buffer of 8,192 bytes what stands before `end` is the text, and no more
 pub text_front : (o : Outcome) {before after : List ℕ} {end : ℕ} → length before ≡ 8192 → WroteText o before after end → take end after ≡ text_of o

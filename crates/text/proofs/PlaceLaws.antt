@@ -8,11 +8,11 @@ use native.Mathlib.Nat.{add-zero, add-suc, suc-mul, zero-mul}
 use native.Mathlib.Numerals.{add-one}
 use native.Mathlib.Omega.{arith}
 use lib.ListN.{length, length-append}
-use Rattle.bits.specs.Sets.{lowest}
-use Rattle.bits.proofs.SetLaws.{Lowest, lowest_is}
-use Rattle.text.specs.Buffer.{Wrote}
+use Rattle.bits.proofs.FoundLaws.{Found, Missing}
+use Rattle.text.specs.declared.line.Text.{Text}
+use Rattle.text.specs.Inner.{Added}
 use Rattle.text.specs.Text.{decimal, places}
-use Rattle.text.proofs.BufferLaws.{wrote_none, wrote_then}
+use Rattle.text.proofs.BufferLaws.{wrote_none, added_then}
 use Rattle.text.proofs.DigitLaws.{decimal_most}
 
 module _ (P : ℕ → Bool) where
@@ -45,27 +45,16 @@ module _ (P : ℕ → Bool) where
   places_grow i zero = rw add-zero (omega arith)
   places_grow i (suc c) = omega (arith, places_grow i c, (places_step (i + c)).0, ap (λ (k : ℕ). length (places P k)) (add-suc i c ∙ sym (add-one (i + c))))
 
-  -- room for all places is room for the next one
-  places_room : {i c : ℕ} → i < c → P i ≡ true → length (places P i) + (1 + length (decimal i)) ≤ length (places P c)
-  places_room {i} {c} h e =
-      let all : i + 1 + (c - (i + 1)) ≡ c = omega arith in
-      omega (
-        arith,
-        ap length (places_on i e) ∙ length-append (places P i) (32 ∷ decimal i),
-        places_grow (i + 1) (c - (i + 1)),
-        ap (λ (k : ℕ). length (places P k)) all,
-      )
-
   -- AT MOST 4,010 BYTES: 10 places of two bytes with the space, 90 of three, 900 of four and 24 of five
-  places_more : (d i c : ℕ) → ((j : ℕ) → j < i + c → j < 10 ^ suc d) → length (places P (i + c)) ≤ length (places P i) + c * (d + 2)
-  places_more d i zero h = omega (arith, ap (λ (k : ℕ). length (places P k)) (add-zero i), zero-mul (d + 2))
-  places_more d i (suc c) h =
+  places_more : (d i c : ℕ) → i + c ≤ 1024 → ((j : ℕ) → j < i + c → j < 10 ^ suc d) → length (places P (i + c)) ≤ length (places P i) + c * (d + 2)
+  places_more d i zero l h = omega (arith, ap (λ (k : ℕ). length (places P k)) (add-zero i), zero-mul (d + 2))
+  places_more d i (suc c) l h =
       omega (
         arith,
         ap (λ (k : ℕ). length (places P k)) (add-suc i c ∙ sym (add-one (i + c))),
         (places_step (i + c)).1,
-        decimal_most d (i + c) (h (i + c) (omega arith)),
-        places_more d i c (λ j l. h j (omega arith)),
+        decimal_most d (i + c) (omega arith) (h (i + c) (omega arith)),
+        places_more d i c (omega arith) (λ j g. h j (omega arith)),
         suc-mul c (d + 2),
       )
 
@@ -78,10 +67,10 @@ module _ (P : ℕ → Bool) where
       omega (
         arith,
         places_none,
-        places_more 0 0 10 (λ j l. omega arith),
-        places_more 1 10 90 (λ j l. omega arith),
-        places_more 2 100 900 (λ j l. omega arith),
-        places_more 3 1000 24 (λ j l. omega arith),
+        places_more 0 0 10 (omega arith) (λ j l. omega arith),
+        places_more 1 10 90 (omega arith) (λ j l. omega arith),
+        places_more 2 100 900 (omega arith) (λ j l. omega arith),
+        places_more 3 1000 24 (omega arith) (λ j l. omega arith),
       )
 
 -- sets with the same places below c have the same list
@@ -90,32 +79,49 @@ unfolding places
 places_same P Q zero h = refl
 places_same P Q (suc c) h = rw (places_same P Q c (λ j l. h j (omega arith)), h c (omega arith))
 
--- PLACES WRITTEN ONE AFTER THE OTHER: those below i, where i is the next one, or 1,024
-pub record Reached (P : ℕ → Bool) (i : ℕ) (before : List ℕ) (at : ℕ) (after : List ℕ) (end : ℕ) : Type 0 where
-  pub within : i ≤ 1024
-  pub there : i < 1024 → P i ≡ true
-  pub written : Wrote (places P i) before at after end
-
-module _ (P : ℕ → Bool) {before : List ℕ} {at : ℕ} where
-  -- from the places below i to those below the next one
-  reach : (i : ℕ) {r : ℕ} {after : List ℕ} {end : ℕ} → i ≤ 1024 → r ≡ lowest P i (1024 - i) → Wrote (places P i) before at after end → Reached P r before at after end
-  reach i {r} h e f =
-      let l : Lowest P i (1024 - i) r = rw e (lowest_is P i (1024 - i)) in
-      let a = l.from in
-      let b = l.within in
+-- PLACES ONE AFTER THE OTHER: those below the next one are followed by it, and are all where there is no next one
+module _ {P : ℕ → Bool} {i : ℕ} where
+  pub places_next : {r : ℕ} → Found P i 1024 r → places P (r + 1) ≡ places P i ++ (32 ∷ decimal r)
+  places_next {r} f =
+      let from = f.from in
       let all : i + (r - i) ≡ r = omega arith in
-      let same : places P r ≡ places P i = sym (ap (places P) all) ∙ places_skip P i (r - i) (λ j g k. l.none j g (omega arith)) in
-      record { within = omega arith; there = λ g. l.found (omega arith); written = rw same f }
+      let skipped : places P r ≡ places P i = sym (ap (places P) all) ∙ places_skip P i (r - i) (λ j g l. f.before j g (omega arith)) in
+      places_on P r f.here ∙ ap (λ (bytes : List ℕ). bytes ++ (32 ∷ decimal r)) skipped
 
-  pub reached_start : {r : ℕ} → r ≡ lowest P 0 1024 → Reached P r before at before at
+  pub places_all : i ≤ 1024 → Missing P i 1024 → places P 1024 ≡ places P i
+  places_all h f =
+      let all : i + (1024 - i) ≡ 1024 = omega arith in
+      sym (ap (places P) all) ∙ places_skip P i (1024 - i) (λ j g l. f.none j g (omega arith))
+
+  -- room for all places is room for the next one
+  pub next_room : {r : ℕ} → Found P i 1024 r → length (places P i) + (1 + length (decimal r)) ≤ length (places P 1024)
+  next_room {r} f =
+      let there = f.there in
+      let all : r + 1 + (1024 - (r + 1)) ≡ 1024 = omega arith in
+      omega (
+        arith,
+        ap length (places_next f) ∙ length-append (places P i) (32 ∷ decimal r),
+        places_grow P (r + 1) (1024 - (r + 1)),
+        ap (λ (k : ℕ). length (places P k)) all,
+      )
+
+-- A TEXT WITH THE PLACES BELOW i behind what it had
+pub record Listed (P : ℕ → Bool) (i : ℕ) (before after : Text) : Type 0 where
+  pub within : i ≤ 1024
+  pub added : Added (places P i) before after
+
+module _ {P : ℕ → Bool} {before : Text} where
+  pub listed_none : Listed P 0 before before
   unfolding places
-  reached_start e = reach 0 (omega arith) e wrote_none
+  listed_none = record { within = omega arith; added = record { written = wrote_none; same_buffer = refl } }
 
-  pub reached_on : (i : ℕ) {r middle end : ℕ} {between after : List ℕ} → i < 1024 → Reached P i before at between middle → Wrote (32 ∷ decimal i) between middle after end → r ≡ lowest P (i + 1) (1024 - (i + 1)) → Reached P r before at after end
-  reached_on i h f g e = reach (i + 1) (omega arith) e (rw (places_on P i (f.there h)) (wrote_then f.written g))
+  pub listed_next : {i r : ℕ} {between after : Text} → Found P i 1024 r → Listed P i before between → Added (32 ∷ decimal r) between after → Listed P (r + 1) before after
+  listed_next f l g =
+      let there = f.there in
+      record { within = omega arith; added = rw (places_next f) (added_then l.added g) }
 
-  pub reached_room : (i : ℕ) {middle : ℕ} {between : List ℕ} → i < 1024 → Reached P i before at between middle → middle + (1 + length (decimal i)) ≤ at + length (places P 1024)
-  reached_room i h f = omega (arith, f.written.behind, places_room P h (f.there h))
+  pub listed_all : {i : ℕ} {after : Text} → Missing P i 1024 → Listed P i before after → Added (places P 1024) before after
+  listed_all f l = rw (places_all l.within f) l.added
 
-  pub reached_end : (i : ℕ) {end : ℕ} {after : List ℕ} → 1024 ≤ i → Reached P i before at after end → Wrote (places P 1024) before at after end
-  reached_end i h f = let e : i ≡ 1024 = omega (arith, f.within) in rw e at f.written
+  pub listed_room : {i r : ℕ} {after : Text} → Found P i 1024 r → Listed P i before after → after.end + (1 + length (decimal r)) ≤ before.end + length (places P 1024)
+  listed_room f l = omega (arith, l.added.written.behind, next_room f)

@@ -1,6 +1,6 @@
 -- Laws of one step: what the tests of the code show of it, that it depends only on what is known, that a good one is usable, and
 -- that its conclusion has a place in the tables.
-use mathlib.Core.Path.{◌≡◌, refl, sym, ap, ap₂, ◌∙◌}
+use mathlib.Core.Path.{◌≡◌, refl, ap, ap₂}
 use mathlib.Core.Bool.{Bool, true, false, cond, ◌&&◌}
 use mathlib.Core.List.{List}
 use Prim.Native.Nat.{ℕ, ◌/◌, ◌≤◌, ◌<◌}
@@ -26,14 +26,15 @@ use Rattle.tables.specs.Tables.{in_table, added_concepts, added_links}
 use Rattle.tables.proofs.TableLaws.{in_table_lem}
 use Rattle.yes.specs.YesSheet.{step_in, known, good_over, premises_known}
 
--- THE TESTS OF THE CODE: the place counts, and the numbers and the premises are right for the rule of the line l there
-module _ (pack p : List ℕ) {s : Step} {l : Line} (e : s ≡ step_in p) (f : l ≡ line_at_place pack s.place) where
-  pub good_parts : (ws : List ℕ) (n : ℕ) (K : Fact → Bool)
-      → good_over (lines_of pack) (counted pack ws) n K (step_in p) ≡ ((ltb s.place (length pack / 8) && counted pack ws s.place) && (numbers_fit (rule_of l s.x s.y s.z) n s && premises_known (rule_of l s.x s.y s.z) K))
+-- THE TESTS OF THE CODE: the place counts, and the numbers and the premises are right for the rule of the line there
+module _ (pack : List ℕ) where
+  abbrev rule_there : Step → Rule
+  rule_there s = rule_of (line_at_place pack s.place) s.x s.y s.z
+
+  pub good_parts : (ws : List ℕ) (n : ℕ) (K : Fact → Bool) (s : Step)
+      → good_over (lines_of pack) (counted pack ws) n K s ≡ ((ltb s.place (length pack / 8) && counted pack ws s.place) && (numbers_fit (rule_there s) n s && premises_known (rule_there s) K))
   unfolding good_over usable
-  good_parts ws n K =
-      ap (good_over (lines_of pack) (counted pack ws) n K) (sym e)
-      ∙ rw lines_length (there (ltb s.place (length pack / 8)) refl (counted pack ws s.place))
+  good_parts ws n K s = rw lines_length (there (ltb s.place (length pack / 8)) refl (counted pack ws s.place))
     where
       k : Line
       k = line_at (lines_of pack) s.place
@@ -41,13 +42,15 @@ module _ (pack p : List ℕ) {s : Step} {l : Line} (e : s ≡ step_in p) (f : l 
       at : Line → Rule
       at x = rule_of x s.x s.y s.z
 
-      there : (t : Bool) → ltb s.place (length pack / 8) ≡ t → (u : Bool) → (((t && u) && numbers_fit (at k) n s) && premises_known (at k) K) ≡ ((t && u) && (numbers_fit (at l) n s && premises_known (at l) K))
-      there true h true = ap (λ (x : Line). numbers_fit (at x) n s && premises_known (at x) K) (lines_at pack s.place (ltb-true _ _ h) ∙ sym f)
+      there : (t : Bool) → ltb s.place (length pack / 8) ≡ t → (u : Bool) → (((t && u) && numbers_fit (at k) n s) && premises_known (at k) K) ≡ ((t && u) && (numbers_fit (rule_there s) n s && premises_known (rule_there s) K))
+      there true h true = ap (λ (x : Line). numbers_fit (at x) n s && premises_known (at x) K) (lines_at pack s.place (ltb-true _ _ h))
       there true h false = refl
       there false h u = refl
 
-  pub concludes : s.place < length pack / 8 → (rule_of l s.x s.y s.z).gives ≡ conclusion_of (lines_of pack) (step_in p)
-  concludes h = ap (λ (k : Line). (rule_of k s.x s.y s.z).gives) (f ∙ sym (lines_at pack s.place h)) ∙ ap (conclusion_of (lines_of pack)) e
+  pub concludes : (p : List ℕ) {s : Step} {l : Line} {rule : Rule} → s ≡ step_in p → l ≡ line_at_place pack s.place → rule ≡ rule_of l s.x s.y s.z → s.place < length pack / 8
+      → conclusion_of (lines_of pack) (step_in p) ≡ rule.gives
+  concludes p {s} e f g h =
+      rw (g, f, ← e) (ap (λ (k : Line). (rule_of k s.x s.y s.z).gives) (lines_at pack s.place h))
 
 module _ (ls : List Line) (S : ℕ → Bool) (n : ℕ) where
   -- whether a step is good depends only on which facts are known

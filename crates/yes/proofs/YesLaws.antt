@@ -10,12 +10,11 @@ use lib.Dec.{ltb}
 use lib.ListN.{length, take}
 use lib.Seq.{take-suc, take_all}
 use borrow.Author.Tests.{ltb-false, lt-ltb, le-ltb, not-false}
+use Rattle.std.specs.Prelude.{Result, Ok, Err}
 use Rattle.bits.proofs.Truth.{both_true, or_elim, clash, cond_first, cond_second}
 use Rattle.bits.proofs.SetLaws.{none_lowest, Left, left_start, left_on, left_here, left_end, first_none}
 use Rattle.bits.proofs.ListLaws.{listed_length, listed_at}
 use Rattle.pack.specs.declared.check.Refusal.{Refusal}
-use Rattle.pack.specs.declared.check.Checked.{Checked}
-use Rattle.pack.specs.declared.check.Checked.TheVariants as checked
 use Rattle.pack.specs.declared.line.Line.{Line}
 use Rattle.pack.specs.declared.line.Fact.{Fact}
 use Rattle.pack.specs.declared.line.Fact.TheVariants.{In}
@@ -30,8 +29,8 @@ use Rattle.pack.proofs.RuleLaws.{same_one}
 use Rattle.pack.proofs.Soundness.{derived_follows}
 use Rattle.tables.specs.Tables.{held_in, held, added_concepts, added_links, start_tables, Whole}
 use Rattle.tables.proofs.TableLaws.{start_whole, start_held, held_added, whole_added}
-use Rattle.yes.specs.declared.check.YesAnswer.{YesAnswer}
-use Rattle.yes.specs.declared.check.YesAnswer.TheVariants as yes
+use Rattle.yes.specs.declared.check.YesError.{YesError}
+use Rattle.yes.specs.declared.check.YesError.TheVariants as yes
 use Rattle.yes.specs.YesSheet.{step_in, zeros_in, steps_of, concluded, known, good_over, good_at, yes_length_fits}
 use Rattle.yes.specs.Computed.{lowest_bad, check_steps, yes_after, check_yes}
 use Rattle.yes.proofs.StepLaws.{good_same, good, conclusion_in_table}
@@ -120,24 +119,24 @@ module _ (ls : List Line) (S : ℕ → Bool) (n : ℕ) (sheet : List ℕ) where
           left = left_on fails_at h (ap not (sym judged ∙ t)) p.left;
         })
 
-    pub step_bad : (a b : ℕ) → r ≡ false → yes.Step i ≡ check_steps ls S n a b sheet
+    pub step_bad : (a b : ℕ) → r ≡ false → Err (yes.Step i) ≡ check_steps ls S n a b sheet
     unfolding check_steps
     step_bad a b f =
         let bad : i ≡ lowest_bad ls S n sheet = left_here fails_at h (ap not (sym judged ∙ f)) p.left in
         rw (← bad, lt-ltb i (length sheet / 8) h)
 
   module _ {concepts links : List ℕ} {i : ℕ} (p : GoodBefore concepts links i) (h : length sheet / 8 ≤ i) (a b : ℕ) {r : Bool} (e : r ≡ held_in concepts a b) where
-    all_good : cond r yes.Accepted yes.NotShown ≡ check_steps ls S n a b sheet
+    all_good : cond r (Ok tt) (Err yes.NotShown) ≡ check_steps ls S n a b sheet
     unfolding check_steps held
     all_good =
         let bad : i ≡ lowest_bad ls S n sheet = left_end fails_at h p.left in
         let goal : known ls n (steps_of sheet) (In a b) ≡ r = sym (known_last ls n sheet i h (In a b)) ∙ sym (p.holds (In a b)) ∙ sym e in
         rw (← bad, le-ltb i (length sheet / 8) h, goal)
 
-    pub goal_shown : r ≡ true → yes.Accepted ≡ check_steps ls S n a b sheet
+    pub goal_shown : r ≡ true → Ok tt ≡ check_steps ls S n a b sheet
     goal_shown f = rw f at all_good
 
-    pub goal_not_shown : r ≡ false → yes.NotShown ≡ check_steps ls S n a b sheet
+    pub goal_not_shown : r ≡ false → Err yes.NotShown ≡ check_steps ls S n a b sheet
     goal_not_shown f = rw f at all_good
 
   -- THE ANSWERS OF THE STEPS: accepted where every step is good and the goal is known; a step where it is the lowest bad one
@@ -145,14 +144,14 @@ module _ (ls : List Line) (S : ℕ → Bool) (n : ℕ) (sheet : List ℕ) where
     pub all : (i : ℕ) → i < length sheet / 8 → good_at ls S n sheet i ≡ true
     pub goal : known ls n (steps_of sheet) (In a b) ≡ true
 
-  accepted_good : (a b : ℕ) → check_steps ls S n a b sheet ≡ yes.Accepted → AllGood a b
+  accepted_good : (a b : ℕ) → check_steps ls S n a b sheet ≡ Ok tt → AllGood a b
   unfolding check_steps lowest_bad
   accepted_good a b e =
       let t = cond_second (ltb (lowest_bad ls S n sheet) (length sheet / 8)) e (λ q. clash cc) in
       let g = cond_first (known ls n (steps_of sheet) (In a b)) t.1 (λ q. clash cc) in
       record { all = λ i h. not-false (good_at ls S n sheet i) (first_none fails_at refl (ltb-false (lowest_bad ls S n sheet) (length sheet / 8) t.0) i h); goal = g.0 }
 
-  good_accepted : {a b : ℕ} → AllGood a b → check_steps ls S n a b sheet ≡ yes.Accepted
+  good_accepted : {a b : ℕ} → AllGood a b → check_steps ls S n a b sheet ≡ Ok tt
   unfolding check_steps lowest_bad
   good_accepted {a} {b} g =
       let none = none_lowest fails_at 0 (length sheet / 8) (λ j h l. ap not (g.all j (omega (arith, zero-add (length sheet / 8))))) in
@@ -179,21 +178,21 @@ module _ (ls : List Line) (S : ℕ → Bool) (n : ℕ) (sheet : List ℕ) where
 -- THE YES CHECK
 module _ (n m : ℕ) (s ws : List ℕ) (a b : ℕ) (sheet : List ℕ) where
   -- an answer that only the steps give
-  by_steps : {x : YesAnswer} → check_yes n m s ws a b sheet ≡ x → ((why : Refusal) → yes.Refused why ≡ x → ⊥) → (yes.Length ≡ x → ⊥) → check_steps (lines_of s) (counted s ws) n a b sheet ≡ x
+  by_steps : {x : Result (Unit {0}) YesError} → check_yes n m s ws a b sheet ≡ x → ((why : Refusal) → Err (yes.Refused why) ≡ x → ⊥) → (Err yes.Length ≡ x → ⊥) → check_steps (lines_of s) (counted s ws) n a b sheet ≡ x
   unfolding check_yes
   by_steps {x} e question fits = after (check_question n m s ws a b) e
     where
-      after : (r : Checked) → yes_after r n s ws a b sheet ≡ x → check_steps (lines_of s) (counted s ws) n a b sheet ≡ x
-      after (checked.Refused why) h = absurd (question why h)
-      after (checked.Count k) h = (cond_first (yes_length_fits sheet) h fits).1
+      after : (r : Result ℕ Refusal) → yes_after r n s ws a b sheet ≡ x → check_steps (lines_of s) (counted s ws) n a b sheet ≡ x
+      after (Err why) h = absurd (question why h)
+      after (Ok k) h = (cond_first (yes_length_fits sheet) h fits).1
 
   -- AN ACCEPTED SHEET IS RIGHT: the goal follows from the marked records
-  pub yes_sound : check_yes n m s ws a b sheet ≡ yes.Accepted → Follows (lines_of s) (counted s ws) a b
+  pub yes_sound : check_yes n m s ws a b sheet ≡ Ok tt → Follows (lines_of s) (counted s ws) a b
   yes_sound h = good_follows (lines_of s) (counted s ws) n sheet (accepted_good (lines_of s) (counted s ws) n sheet a b (by_steps h (λ why q. clash cc) (λ q. clash cc)))
 
   -- EVERY SHEET OF GOOD STEPS THAT SHOWS THE GOAL IS ACCEPTED
-  pub good_accepts : {k : ℕ} → check_question n m s ws a b ≡ checked.Count k → yes_length_fits sheet ≡ true
+  pub good_accepts : {k : ℕ} → check_question n m s ws a b ≡ Ok k → yes_length_fits sheet ≡ true
       → ((i : ℕ) → i < length sheet / 8 → good_at (lines_of s) (counted s ws) n sheet i ≡ true) → known (lines_of s) n (steps_of sheet) (In a b) ≡ true
-      → check_yes n m s ws a b sheet ≡ yes.Accepted
+      → check_yes n m s ws a b sheet ≡ Ok tt
   unfolding check_yes
   good_accepts e l g k = rw (e, l) (good_accepted (lines_of s) (counted s ws) n sheet (record { all = g; goal = k }))

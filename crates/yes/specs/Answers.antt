@@ -1,22 +1,24 @@
 -- What the yes check gives: the number of each answer with the step or place that comes with it, and its rows of document 01's table.
-use Rattle.std.specs.Prelude.{◌≡◌, Bool, false, List, [], ◌∷◌, ◌++◌, ℕ, ◌/◌, length}
+use Rattle.std.specs.Prelude.{◌≡◌, Bool, false, List, [], ◌∷◌, ◌++◌, ℕ, ◌/◌, length, Result}
 use Rattle.pack.specs.declared.line.Fact.TheVariants.{In}
 use Rattle.pack.specs.declared.line.Line.{Line}
-use Rattle.pack.specs.Answers.{refusal_told}
+use Rattle.pack.specs.Answers.{refusal_told, nothing_told, answer_told}
 use Rattle.pack.specs.Record.{lines_of}
 use Rattle.pack.specs.Question.{counted, question_rows}
 use Rattle.pack.specs.Table.{Row, refuse, refuse_at, Given}
 use Rattle.pack.specs.World.{Follows}
-use Rattle.yes.specs.declared.check.YesAnswer.{YesAnswer}
-use Rattle.yes.specs.declared.check.YesAnswer.TheVariants as yes
+use Rattle.yes.specs.declared.check.YesError.{YesError}
+use Rattle.yes.specs.declared.check.YesError.TheVariants.{Refused, Length, Step, NotShown}
 use Rattle.yes.specs.YesSheet.{steps_of, known, good_at, yes_length_fits}
 
-abbrev pub yes_told : YesAnswer → ℕ × ℕ
-yes_told (yes.Refused why) = refusal_told why
-yes_told yes.Length = (9, 0)
-yes_told (yes.Step i) = (10, i)
-yes_told yes.NotShown = (13, 0)
-yes_told yes.Accepted = (0, 0)
+abbrev pub yes_error_told : YesError → ℕ × ℕ
+yes_error_told (Refused why) = refusal_told why
+yes_error_told Length = (9, 0)
+yes_error_told (Step i) = (10, i)
+yes_error_told NotShown = (13, 0)
+
+abbrev pub yes_told : Result (Unit {0}) YesError → ℕ × ℕ
+yes_told = answer_told nothing_told yes_error_told
 
 -- 9 LENGTH, 10 STEP with the lowest step that is not good, 13 NOT SHOWN
 abbrev pub step_rows : List Line → (ℕ → Bool) → ℕ → ℕ → ℕ → List ℕ → List Row

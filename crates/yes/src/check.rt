@@ -1,97 +1,85 @@
-// The yes check: numbers 1 to 5, 9, 10 and 13 of document 01's table, else ACCEPTED.
+// The yes check: numbers 1 to 5, 9, 10 and 13 of document 01's table, else the sheet is accepted.
 ghost use Rattle.std.specs.Prelude.{◌≡◌, ◌≤◌, length};
 ghost use Rattle.pack.specs.Record.{lines_of};
 ghost use Rattle.pack.specs.Question.{counted};
-ghost use Rattle.pack.specs.Computed.{Admitted};
-ghost use Rattle.yes.specs.Computed.{check_steps, check_yes};
-ghost use Rattle.yes.specs.Answers.{yes_told, GivesYes};
+ghost use Rattle.yes.specs.declared.check.YesError.TheVariants.{Refused};
+ghost use Rattle.yes.specs.Computed.{check_steps};
+ghost use Rattle.yes.specs.Answers.{yes_told, yes_error_told, GivesYes};
 
 use crate::step::check_step;
-use pack::check::{Checked, Refusal};
-use pack::question::check_question;
-use tables::{in_held, start_tables};
+use pack::check::Refusal;
+use pack::question::Question;
+use pack::taken::Taken;
+use pack::told::Told;
+use tables::Tables;
 
-// What the yes check answers.
-#[derive(Clone, Copy)]
-pub enum YesAnswer {
+// Why a yes sheet is not accepted, in the order of document 01's table.
+#[derive(Clone, Copy, Debug, PartialEq, Eq)]
+pub enum YesError {
     Refused(Refusal),
     Length,
     Step(u32),
     NotShown,
-    Accepted,
 }
 
-// The steps of a sheet of right length, for a question that is taken.
-fn check_steps<'a>(
-    n: usize,
-    m: usize,
-    pack: &'a [u8],
-    marks: &'a [u64],
-    a: usize,
-    b: usize,
-    sheet: &'a [u8],
-) -> YesAnswer
-    requires { Admitted n m pack.now marks.now a b × (length sheet.now ≤ 524288) }
-    ensures { result ≡ check_steps (lines_of pack.now) (counted pack.now marks.now) n a b sheet.now }
-{
-    let start = start_tables(n);
-    let mut concepts = start.concepts;
-    let mut links = start.links;
-    let steps = sheet.len() / 8;
-    let mut i = 0;
-    while i < steps {
-        let at = i * 8;
-        let end = at + 8;
-        if check_step(n, pack, marks, &sheet[at..end], &mut concepts, &mut links) {
-            i += 1;
-        } else {
-            return YesAnswer::Step(i as u32);
+impl From<Refusal> for YesError {
+    ghost from_gives = { λ why e. e ≡ Refused why };
+
+    fn from(why: Refusal) -> YesError {
+        Self::Refused(why)
+    }
+}
+
+impl Told for YesError {
+    ghost told = { yes_error_told };
+
+    fn number(&self) -> u32 {
+        match self {
+            YesError::Refused(why) => why.number(),
+            YesError::Length => 9,
+            YesError::Step(_) => 10,
+            YesError::NotShown => 13,
         }
     }
-    if in_held(&concepts, a as u8, b as u8) {
-        YesAnswer::Accepted
-    } else {
-        YesAnswer::NotShown
+
+    fn value(&self) -> u64 {
+        match self {
+            YesError::Refused(why) => why.value(),
+            YesError::Step(step) => *step as u64,
+            _ => 0,
+        }
     }
 }
 
-// The length and the steps, for a question that is taken.
-fn check_yes_counted<'a>(
-    n: usize,
-    m: usize,
-    pack: &'a [u8],
-    marks: &'a [u64],
-    a: usize,
-    b: usize,
-    sheet: &'a [u8],
-) -> YesAnswer
-    requires { Admitted n m pack.now marks.now a b }
-    ensures { result ≡ check_yes n m pack.now marks.now a b sheet.now }
+// The steps of a sheet of right length.
+fn check_steps(q: &Taken, sheet: &[u8]) -> Result<(), YesError>
+    requires { length sheet.now ≤ 524288 }
+    ensures { result ≡ check_steps (lines_of q.now.pack.now) (counted q.now.pack.now q.now.marks.now) q.now.n q.now.a q.now.b sheet.now }
 {
-    if sheet.len() % 8 != 0 {
-        return YesAnswer::Length;
+    let asked = q.asked();
+    let mut tables = Tables::start(q.n);
+    let steps = sheet.len() / 8;
+    for i in 0..steps {
+        let at = i * 8;
+        let end = at + 8;
+        if !check_step(&asked, &sheet[at..end], &mut tables) {
+            return Err(YesError::Step(i as u32));
+        }
     }
-    if 524288 < sheet.len() {
-        return YesAnswer::Length;
+    if !tables.holds_in(q.a as u8, q.b as u8) {
+        return Err(YesError::NotShown);
     }
-    check_steps(n, m, pack, marks, a, b, sheet)
+    Ok(())
 }
 
-// The yes check, for any input.
-pub fn check_yes<'a>(
-    n: usize,
-    m: usize,
-    pack: &'a [u8],
-    marks: &'a [u64],
-    a: usize,
-    b: usize,
-    sheet: &'a [u8],
-) -> YesAnswer
-    ensures { GivesYes n m pack.now marks.now a b sheet.now (yes_told result).0 (yes_told result).1 }
+// The yes check, for any question and any bytes.
+pub fn check_yes(q: &Question, sheet: &[u8]) -> Result<(), YesError>
+    ensures { GivesYes q.now.n q.now.m q.now.pack.now q.now.marks.now q.now.a q.now.b sheet.now (yes_told result).0 (yes_told result).1 }
 {
-    let checked = check_question(n, m, pack, marks, a, b);
-    match checked {
-        Checked::Refused(why) => YesAnswer::Refused(why),
-        Checked::Count(_) => check_yes_counted(n, m, pack, marks, a, b, sheet),
+    let q = q.take()?;
+    let length_fits = (sheet.len() % 8 == 0) & (sheet.len() <= 524288);
+    if !length_fits {
+        return Err(YesError::Length);
     }
+    check_steps(&q, sheet)
 }

@@ -1,17 +1,20 @@
--- `check_yes`: the question's refusal as it is, or what the sheet gives (`check_yes_counted`).
-use mathlib.Core.Path.{sym, ◌∙◌}
-use Rattle.pack.proofs.Promises.{question_is}
-use Rattle.yes.proofs.Promises.{yes_refused, yes_told_lem}
+-- `check_yes`: the question's refusal as it is; for a question that is taken, which is the one asked, what the length and the
+-- steps give.
+use Rattle.yes.proofs.Promises.{question_refused, length_unfit, steps_checked, yes_told_lem}
 use Rattle.yes.proofs.check.check_yes.Goals as goal
 
-pub check_yes_counted-requires : goal.check_yes_counted-requires
-check_yes_counted-requires c = (_, sym (question_is _ _ _ _ _ _ c.check_question-checked.ensures) ∙ c.in-Count.is)
+pub returns-in_err-q : goal.returns-in_err-q
+returns-in_err-q c = yes_told_lem _ _ _ _ _ _ _ (question_refused _ _ _ _ _ _ _ c.in_err-q.ensures.refused c.from_residual.ensures.1)
 
-pub returns-in-Refused : goal.returns-in-Refused
-returns-in-Refused c =
-    let a = c.args in
-    yes_refused a.n a.m a.pack.now a.marks.now a.a a.b a.sheet.now {why = c.in-Refused.why}
-    (sym (question_is _ _ _ _ _ _ c.check_question-checked.ensures) ∙ c.in-Refused.is)
+pub returns-then-not-length_fits : goal.returns-then-not-length_fits
+returns-then-not-length_fits c =
+    let same = c.in_ok-q.ensures.same in
+    let taken = rw (same.0, same.1, same.2, same.3, same.4, same.5) at c.in_ok-q.q.admitted in
+    yes_told_lem _ _ _ _ _ _ _ (length_unfit _ _ _ _ _ _ _ taken c.if-not-length_fits.true)
 
-pub returns-in-Count : goal.returns-in-Count
-returns-in-Count c = yes_told_lem _ _ _ _ _ _ _ c.check_yes_counted.ensures
+pub returns : goal.returns
+returns c =
+    let same = c.in_ok-q.ensures.same in
+    let taken = rw (same.0, same.1, same.2, same.3, same.4, same.5) at c.in_ok-q.q.admitted in
+    let steps = rw (same.0, same.2, same.3, same.4, same.5) at c.check_steps.ensures in
+    yes_told_lem _ _ _ _ _ _ _ (steps_checked _ _ _ _ _ _ _ taken c.if-not-length_fits.false steps)
