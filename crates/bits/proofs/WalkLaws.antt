@@ -1,16 +1,11 @@
 -- Laws of a walk over the numbers of a set below c, the lowest first.
-use Rattle.std.proofs.Common.{◌≡◌, Bool, true, false, ℕ, zero, suc, ◌+◌, ◌-◌, ◌≤◌, ◌<◌, List, [], ◌∷◌, length, filter, cond, Option, Some, None, refl, sym, ap, subst, ◌∙◌, arith}
+use Rattle.std.proofs.Common.{◌≡◌, Bool, true, false, ℕ, zero, suc, ◌+◌, ◌-◌, ◌≤◌, ◌<◌, [], ◌∷◌, length, filter, cond, Option, Some, None, refl, sym, ap, ◌∙◌, arith}
 use native.Mathlib.Decide.{ℕ_discrete}
-use Rattle.std.specs.List.{range_with_len, AllWithin, HoldsAt, FoldsTo}
-use Rattle.std.proofs.lemmas.Iterator.{YieldsList, cases_from_all}
-use denote.Param.Members.{Mut, Called}
-use Rattle.std.specs.Bool.{MatchBool}
-use Rattle.std.specs.Option.{MatchOption}
-use Rattle.std.specs.Iterator.{Yields, YieldsThen, CallableAtEachTurn}
+use Rattle.std.specs.List.{range_with_len}
+use Rattle.std.proofs.lemmas.Iterator.{YieldsList}
 use Rattle.std.proofs.lemmas.Iterator.Consumers.{YieldsList-from_shown}
 use Rattle.bits.specs.Sets.{lowest}
 use Rattle.bits.specs.Walk.{WalkStep, walk_left}
-use Rattle.bits.proofs.Truth.{never}
 use Rattle.bits.proofs.FoundLaws.{Found, Missing, found, missing, found_at, found_end}
 
 module _ (p : ℕ → Bool) where
