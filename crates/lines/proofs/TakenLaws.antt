@@ -5,17 +5,14 @@ use Prim.Native.Nat.{ℕ}
 use native.Mathlib.Omega.{arith}
 use Rattle.pack.specs.declared.check.Refusal.{Refusal}
 use Rattle.pack.specs.declared.check.Refusal.TheVariants.{Sizes, Pack, Record, Marks, Goal}
-use Rattle.pack.specs.declared.check.Checked.{Checked}
-use Rattle.pack.specs.declared.check.Checked.TheVariants.{Refused, Count}
+use Rattle.std.proofs.Common.{Result, Ok, Err}
 use Rattle.pack.specs.Computed.{check_question, Admitted, refusal_number}
 use Rattle.pack.specs.Question.{counted, Taken}
 use Rattle.pack.specs.Record.{lines_of, record_count}
 use Rattle.pack.specs.World.{Follows}
 use Rattle.pack.proofs.Promises.{question_given}
 use Rattle.pack.proofs.QuestionLaws.{asked, asks}
-use Rattle.engine.specs.declared.verdict.VerdictAnswer.{VerdictAnswer}
 use Rattle.engine.specs.Verdict.{GivesVerdict}
-use Rattle.engine.specs.Computed.{verdict_number, verdict_value}
 use Rattle.engine.proofs.Promises.{verdict_same, verdict_refused, verdict_right}
 
 -- no refusal has the number 0
@@ -28,20 +25,16 @@ not_zero Goal e = omega arith
 
 admitted_taken : (n m : ℕ) (s ws : List ℕ) (a b : ℕ) → Admitted n m s ws a b → Taken n m s ws a b
 admitted_taken n m s ws a b (k, e) =
-    let counted : check_question n m s ws a b ≡ Count (record_count s) = e ∙ ap Count (asked n m s ws a b e).pack.count in
+    let counted : check_question n m s ws a b ≡ Ok (record_count s) = e ∙ ap (λ (n : ℕ). Ok {E = Refusal} n) (asked n m s ws a b e).pack.count in
     rw counted at (question_given n m s ws a b)
-
--- what is given with an answer, by its name
-pub given_as : (n m : ℕ) (s ws : List ℕ) (a b : ℕ) {r x : VerdictAnswer} → r ≡ x → GivesVerdict n m s ws a b (verdict_number r) (verdict_value r) → GivesVerdict n m s ws a b (verdict_number x) (verdict_value x)
-given_as n m s ws a b e g = rw e at g
 
 module _ (n m : ℕ) (s ws : List ℕ) (a b : ℕ) {v : ℕ} (g : GivesVerdict n m s ws a b 0 v) where
   admitted : Admitted n m s ws a b
   admitted = go (check_question n m s ws a b) refl
     where
-      go : (q : Checked) → check_question n m s ws a b ≡ q → Admitted n m s ws a b
-      go (Refused why) e = absurd (not_zero why (verdict_same n m s ws a b g (verdict_refused n m s ws a b e)).0)
-      go (Count k) e = (k, e)
+      go : (q : Result ℕ Refusal) → check_question n m s ws a b ≡ q → Admitted n m s ws a b
+      go (Err why) e = absurd (not_zero why (verdict_same n m s ws a b g (verdict_refused n m s ws a b e)).0)
+      go (Ok k) e = (k, e)
 
   pub given_taken : Taken n m s ws a b
   given_taken = admitted_taken n m s ws a b admitted
