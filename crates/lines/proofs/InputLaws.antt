@@ -61,6 +61,9 @@ module _ (s : List ℕ) (most : length s ≤ 8200) (some : 8 ≤ length s) where
   pub not_1 : (byte 1 ≡ 0 → ⊥) → Err Shape ≡ input_of s
   not_1 h = other (and_no (eqb (byte 8) 0 && eqb (byte 3) 0 && eqb (byte 2) 0) (eqb (byte 1) 0) (ne_eqb (byte 1) 0 h))
 
+-- each way to ask nothing
+pub ruleset no_question = (too_long_lem, too_short, not_8, not_3, not_2, not_1)
+
 -- THE PACK LIES WITHIN THE INPUT
 abbrev pub Fits : Result Asked InputError → ℕ → Type 0
 Fits (Err why) size = Unit {0}

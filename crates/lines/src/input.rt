@@ -40,6 +40,7 @@ impl Told for InputError {
 }
 
 // The question of an input of any length and content. Its record is 0, n, m, A, B, three zeros.
+#[tactic(auto, using(crate::proofs::InputLaws::no_question))]
 pub fn read_input(s: &[u8]) -> Result<Asked, InputError>
     ensures { result ≡ input_of s.now }
 {
@@ -47,14 +48,14 @@ pub fn read_input(s: &[u8]) -> Result<Asked, InputError>
     if too_long {
         return Err(InputError::TooLong);
     }
-    match s {
-        [pack @ .., 0, n, m, a, b, 0, 0, 0] => Ok(Asked {
-            n: *n,
-            m: *m,
-            a: *a,
-            b: *b,
-            at: pack.len(),
-        }),
-        _ => Err(InputError::Shape),
-    }
+    let [pack @ .., 0, n, m, a, b, 0, 0, 0] = s else {
+        return Err(InputError::Shape);
+    };
+    Ok(Asked {
+        n: *n,
+        m: *m,
+        a: *a,
+        b: *b,
+        at: pack.len(),
+    })
 }

@@ -26,7 +26,11 @@ pub fn question_text(out: &mut [u8; 8192], q: &Question) -> usize
     ensures { WritesThe (PrintsAsked q.now.n q.now.m q.now.pack.now q.now.marks.now q.now.a q.now.b) out.old out.new result }
 {
     match verdict(q) {
-        Ok(Verdict::Follows) => write_follows(out, sheet_parts(q), &module_marks(q), &set_marks(q)),
+        Ok(Verdict::Follows) => {
+            let module = module_marks(q);
+            let set = set_marks(q);
+            write_follows(out, sheet_parts(q), &module, &set)
+        }
         Ok(Verdict::Not) => write_not(out, sheet_parts(q), &module_marks(q)),
         Err(why) => refusal_text(out, q, why),
     }
