@@ -235,10 +235,10 @@ def bounded(function, theorem, premise, results):
 def faults(function, page, item, every):
     """What keeps a theorem from saying that no second result keeps the promise of a call, however structs are read."""
     readings = [promise(function, every), promise(function, every, False)]
-    return min((faults_of(function, page, item, factors) for factors in readings[:1 + (readings[0] != readings[1])]), key=len)
+    return min((faults_of(function, page, item, factors, every) for factors in readings[:1 + (readings[0] != readings[1])]), key=len)
 
 
-def faults_of(function, page, item, factors):
+def faults_of(function, page, item, factors, every):
     """The same for one reading of the promise."""
     theorem = Theorem(page, item)
     given = {word for factor in factors for word in variables(factor)}
@@ -259,12 +259,29 @@ def faults_of(function, page, item, factors):
         kind = (function.result or '') if word == RESULT else function.parameters.get(re.split('[:@]', word)[0], '')
         if (reference(kind) or (False, kind))[1] in function.generics and theorem.kinds[name] not in [[one] for one in theorem.types]:
             found.append(f'is not of any type: {name}')
-    wanted = {frozenset((names.get((word, 1)), names.get((word, 2)))) for word in given if word.endswith(LAST)}
-    said = conjuncts(theorem.conclusion)
-    equated = {frozenset((factor[0], factor[2])) for factor in said if len(factor) == 3 and page.resolve(factor[1]) == EQUALS}
-    if not wanted or len(equated) < len(said) or not all(len(pair) == 2 for pair in wanted) or wanted != equated:
+    if not concludes(function, theorem, {word for word in given if word.endswith(LAST)}, names, every):
         found.append(f'does not conclude that the results, and the buffers afterwards, are one: {" ".join(theorem.conclusion)}')
     return found
+
+
+def concludes(function, theorem, wanted, names, every):
+    """Whether a theorem equates each of some variables with its second, and nothing else: whole, or of a result that is a
+    struct all fields."""
+    equated = {}
+    for factor in conjuncts(theorem.conclusion):
+        sides = [k for k, word in enumerate(factor) if theorem.page.resolve(word) == EQUALS]
+        left, right = (factor[:sides[0]], factor[sides[0] + 1:]) if len(sides) == 1 else ([], [])
+        if left[1:] != right[1:] or any(word[0] != '.' for word in left[1:]):
+            return False
+        equated.setdefault(frozenset((*left[:1], *right[:1])), []).append([word[1:] for word in left[1:]])
+    pairs = {frozenset((names.get((word, 1)), names.get((word, 2)))): word for word in wanted}
+    if not wanted or len(pairs) < len(wanted) or any(len(pair) < 2 for pair in pairs) or pairs.keys() != equated.keys():
+        return False
+    for pair, word in pairs.items():
+        parts = [place(function, every, 'result', steps, True) for steps in equated[pair] if word == RESULT]
+        if equated[pair] != [[]] and (word != RESULT or any(rest for _, rest in parts) or left_out(['result'], function.result, function.page, every, {part for part, _ in parts})):
+            return False
+    return True
 
 
 def left_out(path, kind, page, every, given):

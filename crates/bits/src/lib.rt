@@ -51,14 +51,10 @@ pub fn column_with(column: u64, row: u64, a: usize, y: usize) -> u64
 pub fn next_bit(w: u64, j: usize) -> Option<usize>
     ensures { result ≡ found_below 64 (lowest (has w) j (64 - j)) }
 {
-    if 64 <= j {
+    if 64 <= j || w >> j == 0 {
         return None;
     }
-    let rest = w >> j;
-    if rest == 0 {
-        return None;
-    }
-    Some(j + rest.trailing_zeros() as usize)
+    Some(j + (w >> j).trailing_zeros() as usize)
 }
 
 // w with its lowest set bit cleared; 0 for 0.

@@ -2,3 +2,4 @@
 pub mod Verdict
 pub mod Computed
 pub mod Inner
+pub mod Lines

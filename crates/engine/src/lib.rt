@@ -3,5 +3,6 @@
 
 pub mod answer;
 pub mod complete;
+pub mod over;
 pub mod run;
 pub mod verdict;

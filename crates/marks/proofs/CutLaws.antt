@@ -1,51 +1,36 @@
 -- Laws of marks changed: the places below a number as a word, a range cut out.
 use mathlib.Core.Path.{◌≡◌, sym, ap, ◌∙◌, fun_ext}
-use mathlib.Core.Bool.{Bool, true, false, not, ◌&&◌, ◌||◌, and-false, and-true}
+use mathlib.Core.Bool.{Bool, true, false, not, ◌&&◌, and-false, and-true, and_comm}
 use mathlib.Core.List.{List}
 use Prim.Native.Nat.{ℕ, ◌+◌, ◌-◌, ◌*◌, ◌%◌, ◌^◌, ◌≤◌, ◌<◌}
 use native.Mathlib.Decide.{dec_lt}
 use native.Mathlib.Omega.{arith}
-use lib.Bits.{bit_and, bit_or}
 use lib.Dec.{leb, ltb}
 use lib.ListN.{length, get_or}
 use lib.Pow.{pow_pos}
 use borrow.Author.Tests.{lt-ltb, le-ltb, le-leb, lt-leb}
 use Rattle.bits.specs.Bit.{has}
-use Rattle.bits.proofs.Truth.{both_true, never, is_no}
-use Rattle.bits.proofs.BitLaws.{has_zero, has_high, has_and, has_or, has_not_word, one_shl}
+use Rattle.bits.proofs.Truth.{leb_not, both_true, never, is_no}
+use Rattle.bits.proofs.BitLaws.{has_zero, has_high, has_not_word, one_shl}
 use Rattle.marks.specs.Marks.{marked, marks_of, cut_out}
 use Rattle.marks.proofs.MarkLaws.{at_word, unmarked_past}
 use Rattle.marks.proofs.WordLaws.{marked_of, marked_past}
 
 module _ (at i : ℕ) where
-  -- the three words of the places below i: none of the 64, all of them, the lowest
-  pub below_none : i ≤ at → (j : ℕ) → has 0 j ≡ ltb (at + j) i
-  below_none h j = has_zero j ∙ sym (le-ltb (at + j) i (omega arith))
-
-  pub below_all : 64 ≤ i - at → (j : ℕ) → j < 64 → has (2 ^ 64 - 1) j ≡ ltb (at + j) i
-  below_all h j l = has_not_word 64 0 j (omega arith) l ∙ ap not (has_zero j) ∙ sym (lt-ltb (at + j) i (omega arith))
-
-  pub below_some : at < i → i - at < 64 → (j : ℕ) → has ((1 * 2 ^ (i - at)) % 2 ^ 64 - 1) j ≡ ltb (at + j) i
-  below_some g h j = ap (λ (w : ℕ). has (w - 1) j) (one_shl (i - at) h) ∙ go (dec_lt j (i - at))
+  -- the words of the places below i: the lowest of the 64, or all of them
+  pub below_some : i - at < 64 → (j : ℕ) → has ((1 * 2 ^ (i - at)) % 2 ^ 64 - 1) j ≡ ltb (at + j) i
+  below_some h j = ap (λ (w : ℕ). has (w - 1) j) (one_shl (i - at) h) ∙ go (dec_lt j (i - at))
     where
       go : Dec (j < i - at) → has (2 ^ (i - at) - 1) j ≡ ltb (at + j) i
       go (yes l) = ap (λ (w : ℕ). has w j) (omega arith) ∙ has_not_word (i - at) 0 j (pow_pos (i - at)) l ∙ ap not (has_zero j) ∙ sym (lt-ltb (at + j) i (omega arith))
       go (no l) = has_high (i - at) (2 ^ (i - at) - 1) j (omega (arith, pow_pos (i - at))) (omega arith) ∙ sym (le-ltb (at + j) i (omega arith))
 
--- below i, or not below k: not from i on and below k
-outside : (i x : ℕ) (t : Bool) → (ltb x i || not t) ≡ not (leb i x && t)
-outside i x t = go (dec_lt x i)
-  where
-    go : Dec (x < i) → (ltb x i || not t) ≡ not (leb i x && t)
-    go (yes h) = rw (lt-ltb x i h, lt-leb i x h)
-    go (no h) = rw (le-ltb x i (omega arith), le-leb i x (omega arith))
+  pub below_all : 64 ≤ i - at → (j : ℕ) → j < 64 → has (2 ^ 64 - 1) j ≡ ltb (at + j) i
+  below_all h j l = has_not_word 64 0 j (omega arith) l ∙ ap not (has_zero j) ∙ sym (lt-ltb (at + j) i (omega arith))
 
--- what is left of a word by the words of the places below i and below k
-pub cut_bits : (w x y at i k : ℕ) → y < 2 ^ 64 → ((j : ℕ) → j < 64 → has x j ≡ ltb (at + j) i) → ((j : ℕ) → j < 64 → has y j ≡ ltb (at + j) k) → (j : ℕ) → j < 64 → has (bit_and w (bit_or x ((2 ^ 64 - 1) - y))) j ≡ (has w j && not (leb i (at + j) && ltb (at + j) k))
-cut_bits w x y at i k small hx hy j l =
-    has_and w (bit_or x ((2 ^ 64 - 1) - y)) j
-    ∙ ap (λ (t : Bool). has w j && t)
-    (has_or x ((2 ^ 64 - 1) - y) j ∙ rw (hx j l, has_not_word 64 y j small l, hy j l) (outside i (at + j) (ltb (at + j) k)))
+-- below k and not below i: from i on and below k
+pub from_on : (i k x : ℕ) → (ltb x k && not (ltb x i)) ≡ (leb i x && ltb x k)
+from_on i k x = and_comm (ltb x k) (not (ltb x i)) ∙ ap (λ (t : Bool). t && ltb x k) (sym (leb_not i x))
 
 -- bit j of word q is the mark of place q * 64 + j
 word_mark : (ws : List ℕ) (q v j : ℕ) → j < 64 → v ≡ get_or ws q 0 → has v j ≡ marked ws (q * 64 + j)

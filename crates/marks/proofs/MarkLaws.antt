@@ -1,8 +1,9 @@
 -- Laws of marks: place by place in the words, and word by word in the count and the search.
-use mathlib.Core.Path.{◌≡◌, refl, ap, ap₂, ◌∙◌}
+use mathlib.Core.Path.{◌≡◌, refl, sym, ap, ap₂, ◌∙◌}
 use mathlib.Core.Bool.{true, false, not, ◌&&◌}
-use mathlib.Core.List.{List}
-use Prim.Native.Nat.{ℕ, ◌+◌, ◌-◌, ◌*◌, ◌/◌, ◌%◌, ◌≤◌, ◌<◌}
+use mathlib.Core.List.{List, map}
+use Rattle.std.specs.List.{fold, range_with_len}
+use Prim.Native.Nat.{ℕ, zero, suc, ◌+◌, ◌-◌, ◌*◌, ◌/◌, ◌%◌, ◌≤◌, ◌<◌}
 use native.Mathlib.Decide.{dec_lt}
 use native.Mathlib.Omega.{arith}
 use lib.Dec.{eqb, leb}
@@ -38,27 +39,32 @@ module _ (ws : List ℕ) where
         count_same (λ j. marked ws (64 * w + j)) (has (get_or ws w 0)) 64 (λ j l. at_word (64 * w + j) w j (omega arith) (omega arith)),
       )
 
+  -- the words' counts, added up from word a on
+  pub count_words : (a n k : ℕ) → k ≡ count_to (marked ws) (64 * a) → fold (λ s c. s + c) k (map (λ j. count_to (has (get_or ws j 0)) 64) (range_with_len a n)) ≡ count_to (marked ws) (64 * (a + n))
+  count_words a zero k e = e ∙ ap (count_to (marked ws)) (omega arith)
+  count_words a (suc n) k e = count_words (a + 1) n (k + count_to (has (get_or ws a 0)) 64) (omega (arith, e, count_word a)) ∙ ap (count_to (marked ws)) (omega arith)
+
   -- THE SEARCH WORD BY WORD: nothing from p on is marked in the words before k; in word k, from p on, a place is or none
-  module _ {p : ℕ} (k : ℕ) (m : Missing (marked ws) p (k * 64)) where
-    clear : (i : ℕ) → p ≤ i → i < k * 64 + 64 → (k * 64 ≤ i → has (get_or ws k 0) (i % 64) ≡ false) → marked ws i ≡ false
-    clear i h l f = go (dec_lt i (k * 64))
+  module _ {p : ℕ} (k : ℕ) (m : Missing (marked ws) p (k * 64)) {w i : ℕ} (e : w ≡ get_or ws k 0) (f : i ≡ p - k * 64) where
+    clear : (q : ℕ) → p ≤ q → q < k * 64 + 64 → (k * 64 ≤ q → has w (q % 64) ≡ false) → marked ws q ≡ false
+    clear q h l g = go (dec_lt q (k * 64))
       where
-        go : Dec (i < k * 64) → marked ws i ≡ false
-        go (yes b) = m.none i h b
-        go (no b) = at_word i k (i % 64) (omega arith) refl ∙ f (omega arith)
+        go : Dec (q < k * 64) → marked ws q ≡ false
+        go (yes b) = m.none q h b
+        go (no b) = at_word q k (q % 64) (omega arith) refl ∙ ap (λ (v : ℕ). has v (q % 64)) (sym e) ∙ g (omega arith)
 
-    pub word_missing : Missing (has (get_or ws k 0)) (p - k * 64) 64 → Missing (marked ws) p ((k + 1) * 64)
-    word_missing n = record { none = λ i h l. clear i h (omega arith) (λ a. n.none (i % 64) (omega arith) (omega arith)) }
+    pub word_missing : Missing (has w) i 64 → Missing (marked ws) p ((k + 1) * 64)
+    word_missing n = record { none = λ q h l. clear q h (omega arith) (λ a. n.none (q % 64) (omega arith) (omega arith)) }
 
-    pub word_found : {j : ℕ} → k < 16 → Found (has (get_or ws k 0)) (p - k * 64) 64 j → Found (marked ws) p 1024 (k * 64 + j)
-    word_found {j} h f =
-        let b = f.from in
-        let t = f.there in
+    pub word_found : {j : ℕ} → k < 16 → Found (has w) i 64 j → Found (marked ws) p 1024 (k * 64 + j)
+    word_found {j} h n =
+        let b = n.from in
+        let t = n.there in
         record {
           from = omega arith;
           there = omega arith;
-          here = at_word (k * 64 + j) k j (omega arith) (omega arith) ∙ f.here;
-          before = λ i g l. clear i g (omega arith) (λ a. f.before (i % 64) (omega arith) (omega arith));
+          here = at_word (k * 64 + j) k j (omega arith) (omega arith) ∙ ap (λ (v : ℕ). has v j) (sym e) ∙ n.here;
+          before = λ q g l. clear q g (omega arith) (λ a. n.before (q % 64) (omega arith) (omega arith));
         }
 
   -- MARKS: 16 words, and no record at or above the count is marked

@@ -1,5 +1,5 @@
 // Marks changed, a word at a time: without a range of places; and copied.
-ghost use Rattle.std.specs.Prelude.{◌≡◌, not, ◌&&◌, ℕ, ◌+◌, ◌^◌, ◌<◌, leb, ltb, length};
+ghost use Rattle.std.specs.Prelude.{◌≡◌, not, ◌&&◌, ℕ, ◌+◌, ◌<◌, leb, ltb, length};
 ghost use Rattle.bits.specs.Bit.{has};
 ghost use Rattle.marks.specs.Marks.{marked, marks_of, cut_out};
 
@@ -7,25 +7,18 @@ use crate::look::mark_word;
 
 // Of 64 places from `at` on, those below i.
 fn below(at: usize, i: usize) -> u64
-    ensures { (result < 2 ^ 64) × ((j : ℕ) → j < 64 → has result j ≡ ltb (at + j) i) }
+    ensures { (j : ℕ) → j < 64 → has result j ≡ ltb (at + j) i }
 {
-    if i <= at {
-        return 0;
-    }
-    let past = i - at;
-    if 64 <= past {
-        return 18446744073709551615;
-    }
-    (1 << past) - 1
+    let past = i.saturating_sub(at);
+    if past < 64 { (1 << past) - 1 } else { u64::MAX }
 }
 
-// Of the marked ones of 64 places from `at` on, those below i and those from k on.
+// The marked ones of 64 places from `at` on, but for those from i on and below k.
 fn cut_word(w: u64, at: usize, i: usize, k: usize) -> u64
     ensures { (j : ℕ) → j < 64 → has result j ≡ (has w j && not (leb i (at + j) && ltb (at + j) k)) }
 {
-    let before = below(at, i);
-    let after = !below(at, k);
-    w & (before | after)
+    let cut = bits::lacking(below(at, k), below(at, i));
+    bits::lacking(w, cut)
 }
 
 // The marks but for the places from i on and below k.

@@ -43,11 +43,7 @@ pub fn places(marks: &[u64]) -> Places<'_>
 pub fn count_marked(marks: &[u64]) -> u32
     ensures { result ≡ mark_count marks.now }
 {
-    let mut n: u32 = 0;
-    for j in 0..16 {
-        n += bits::count_bits(mark_word(marks, j));
-    }
-    n
+    (0..16).map(|j| bits::count_bits(mark_word(marks, j))).sum()
 }
 
 // The MARKS test: 16 words, and no bit set at or above the record count.

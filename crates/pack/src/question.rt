@@ -89,3 +89,29 @@ impl<'a> Question<'a> {
         })
     }
 }
+
+impl<'a> Taken<'a> {
+    // The question that was taken, as it was asked.
+    pub fn asked(&self) -> Question<'a>
+        ensures { (result.n ≡ self.now.n) × (result.m ≡ self.now.m)
+            × (result.pack.now ≡ self.now.pack.now) × (result.marks.now ≡ self.now.marks.now)
+            × (result.a ≡ self.now.a) × (result.b ≡ self.now.b) }
+    {
+        let Taken {
+            n,
+            m,
+            pack,
+            marks,
+            a,
+            b,
+        } = *self;
+        Question {
+            n,
+            m,
+            pack,
+            marks,
+            a,
+            b,
+        }
+    }
+}

@@ -56,12 +56,13 @@ fn check_steps(q: &Taken, sheet: &[u8]) -> Result<(), YesError>
     requires { length sheet.now ≤ 524288 }
     ensures { result ≡ check_steps (lines_of q.now.pack.now) (counted q.now.pack.now q.now.marks.now) q.now.n q.now.a q.now.b sheet.now }
 {
+    let asked = q.asked();
     let mut tables = Tables::start(q.n);
     let steps = sheet.len() / 8;
     for i in 0..steps {
         let at = i * 8;
         let end = at + 8;
-        if !check_step(q, &sheet[at..end], &mut tables) {
+        if !check_step(&asked, &sheet[at..end], &mut tables) {
             return Err(YesError::Step(i as u32));
         }
     }

@@ -9,7 +9,7 @@ ghost use Rattle.yes.specs.YesSheet.{step_in, zeros_in, good_over};
 use marks::look::is_marked;
 use pack::bytes::two_bytes;
 use pack::line::{Rule, Step, line_at, rule_of};
-use pack::taken::Taken;
+use pack::question::Question;
 use tables::Tables;
 
 // The step in an 8-byte part.
@@ -48,7 +48,7 @@ fn numbers_fit(rule: Rule, s: Step, n: usize) -> bool
 }
 
 // Is the place that of a record that counts?
-fn place_counts(q: &Taken, place: usize) -> bool
+fn place_counts(q: &Question, place: usize) -> bool
     ensures { result ≡ (ltb place (length q.now.pack.now / 8) && counted q.now.pack.now q.now.marks.now place) }
 {
     place < q.pack.len() / 8 && is_marked(q.marks, place)
@@ -56,7 +56,7 @@ fn place_counts(q: &Taken, place: usize) -> bool
 
 // The step in an 8-byte part: is it good? If so its conclusion is added, and if not nothing is.
 #[tactic(auto, using(crate::proofs::StepLaws::good_parts))]
-pub fn check_step(q: &Taken, part: &[u8], tables: &mut Tables) -> bool
+pub fn check_step(q: &Question, part: &[u8], tables: &mut Tables) -> bool
     requires { 8 ≤ length part.now }
     ensures good { result ≡ (zeros_in part.now && good_over (lines_of q.now.pack.now) (counted q.now.pack.now q.now.marks.now) q.now.n (held tables.old.concepts tables.old.links) (step_in part.now)) }
     ensures concepts { tables.new.concepts ≡ cond result (added_concepts (conclusion_of (lines_of q.now.pack.now) (step_in part.now)) tables.old.concepts) tables.old.concepts }

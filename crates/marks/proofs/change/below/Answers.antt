@@ -1,19 +1,10 @@
--- `below`: none of the 64 places is below i (`below_none`), or all are (`below_all`), or the lowest (`below_some`).
-use Prim.Native.Nat.{◌-◌}
+-- `below`: the lowest bits, as many as there are places below i (`below_some`); 64 and more are all of them (`below_all`).
 use native.Mathlib.Omega.{arith}
-use lib.Pow.{pow_pos}
-use Rattle.bits.proofs.BitLaws.{one_shl}
-use Rattle.marks.proofs.CutLaws.{below_none, below_all, below_some}
+use Rattle.marks.proofs.CutLaws.{below_all, below_some}
 use Rattle.marks.proofs.change.below.Goals as goal
 
-pub returns-then-i-at : goal.returns-then-i-at
-returns-then-i-at c = (omega arith, λ j _. below_none _ _ c.if-i-at.true j)
+pub returns-then-past-lt64 : goal.returns-then-past-lt64
+returns-then-past-lt64 c j _ = rw c.saturating_sub-past.ensures (below_some _ _ (omega (arith, c.saturating_sub-past.ensures, c.if-past-lt64.true)) j)
 
-pub returns-then-past-ge64 : goal.returns-then-past-ge64
-returns-then-past-ge64 c = (omega arith, below_all _ _ c.if-past-ge64.true)
-
-pub overflow_sub-result : goal.overflow_sub-result
-overflow_sub-result c = let a = c.args in omega (arith, one_shl (a.i - a.at) (omega arith), pow_pos (a.i - a.at))
-
-pub returns : goal.returns
-returns c = let a = c.args in (omega arith, λ j _. below_some _ _ (omega arith) (omega arith) j)
+pub returns-else-past-lt64 : goal.returns-else-past-lt64
+returns-else-past-lt64 c = below_all _ _ (omega (arith, c.saturating_sub-past.ensures, c.if-past-lt64.false))

@@ -1,37 +1,29 @@
--- `count_marked`: before word j, n counts the marked places below 64 * j; a word adds its set bits (`count_word`).
-use mathlib.Core.Path.{◌≡◌, refl, ap, ◌∙◌}
-use Prim.Native.Nat.{◌≤◌, ◌*◌}
-use native.Mathlib.Omega.{arith}
-use lib.ListN.{get_or}
+-- `count_marked`: the words' counts, added up (`count_words`); each is at most 64.
+use Rattle.std.proofs.Common.{◌≡◌, ℕ, List, map, sum, get_or, refl, ◌∙◌, rules, tests, arith}
+use Rattle.std.specs.List.{range_with_len}
+use Rattle.std.proofs.lemmas.Iterator.{YieldsList-from_range, YieldsList-from_map}
+use Rattle.std.proofs.lemmas.Iterator.Consumers.{YieldsList-at, sum_from_yields_List, fits_from_yields_list}
 use Rattle.bits.specs.Bit.{has}
 use Rattle.bits.specs.Sets.{count_to}
 use Rattle.bits.proofs.SetLaws.{count_le}
-use Rattle.marks.specs.Marks.{marked}
-use Rattle.marks.proofs.MarkLaws.{count_word}
+use Rattle.marks.specs.Marks.{marked, mark_count}
+use Rattle.marks.proofs.MarkLaws.{count_words}
 use Rattle.marks.proofs.look.count_marked.Goals as goal
-use Rattle.marks.proofs.look.count_marked.Goals.{After-count_bits-n}
 
--- the word's count, and that it is at most 64
-added : (c : After-count_bits-n) → c.count_bits-n.result ≡ count_to (has (get_or c.args.marks.now c.loop-j.j 0)) 64
-added c = rw c.mark_word.ensures at c.count_bits-n.ensures
-
-few : (c : After-count_bits-n) → c.count_bits-n.result ≤ 64
-few c = omega (arith, added c, count_le (has (get_or c.args.marks.now c.loop-j.j 0)) 64)
-
-pub loop-j-init : goal.loop-j-init
+total : (ws : List ℕ) → sum (map (λ j. count_to (has (get_or ws j 0)) 64) (range_with_len 0 16)) ≡ mark_count ws
 unfolding count_to
-loop-j-init c = (omega arith, omega arith, refl)
+total ws = count_words ws 0 16 0 refl
 
-pub overflow_add-n : goal.overflow_add-n
-overflow_add-n c = omega (arith, few (goal.at.overflow_add-n c).After-count_bits-n)
-
-pub loop-j-preserved : goal.loop-j-preserved
-loop-j-preserved c =
-    let l = c.loop-j in
-    (omega arith, omega (arith, few (goal.at.loop-j-preserved c).After-count_bits-n), omega (arith, count_word c.args.marks.now l.j, added (goal.at.loop-j-preserved c).After-count_bits-n))
+pub sum-requires-clause-fits : goal.sum-requires-clause-fits
+sum-requires-clause-fits c =
+    let ws = c.args.marks.now in
+    fits_from_yields_list c.map.result _
+    (YieldsList-from_map _ (λ j. count_to (has (get_or ws j 0)) 64) (YieldsList-at c.map.ensures.source (YieldsList-from_range 0 16 16 refl refl)) c.map.ensures.closure (λ x r q k. search (rules, tests)))
+    (rw (total ws) (omega (arith, count_le (marked ws) 1024)))
 
 pub returns : goal.returns
 returns c =
-    let l = c.loop-j in
-    let e : 64 * l.j ≡ 1024 = omega arith in
-    l.invariant.2 ∙ ap (count_to (marked c.args.marks.now)) e
+    let ws = c.args.marks.now in
+    sum_from_yields_List c.map.result c.sum.result c.sum.ensures.ran
+    (YieldsList-from_map _ (λ j. count_to (has (get_or ws j 0)) 64) (YieldsList-at c.map.ensures.source (YieldsList-from_range 0 16 16 refl refl)) c.map.ensures.closure (λ x r q k. search (rules, tests)))
+    ∙ total ws
