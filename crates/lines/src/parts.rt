@@ -12,7 +12,8 @@ use marks::change::cut_marks;
 use pack::question::Question;
 use reasons::module::module_for;
 use reasons::set::printed_set;
-use writer::write::{Sheet, SheetError, write_sheet};
+use writer::answer::{Sheet, SheetError};
+use writer::write::write_sheet;
 
 // Everything is marked: of all places, those of the pack's records.
 pub fn mark_all(pack: &[u8]) -> [u64; 16]
