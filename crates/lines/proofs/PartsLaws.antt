@@ -16,8 +16,11 @@ use Rattle.pack.proofs.Promises.{taken_admitted}
 use Rattle.engine.specs.Computed.{goal_held}
 use Rattle.engine.proofs.VerdictLaws.{too_long_never}
 use Rattle.engine.proofs.VerdictRight.{held_right}
-use Rattle.writer.specs.declared.write.SheetAnswer.{SheetAnswer}
-use Rattle.writer.specs.declared.write.SheetAnswer.TheVariants as answer
+use Rattle.std.proofs.Common.{Result, Ok, Err}
+use Rattle.writer.specs.declared.answer.Sheet.{Sheet}
+use Rattle.writer.specs.declared.answer.Sheet.TheVariants as sheet
+use Rattle.writer.specs.declared.answer.SheetError.{SheetError}
+use Rattle.writer.specs.declared.answer.SheetError.TheVariants as refused
 use Rattle.writer.specs.Sheet.{GivesSheet}
 use Rattle.writer.specs.Computed.{our_sheet, our_parts, sheet_answer, ask_sheet, sheet_number, sheet_value}
 use Rattle.writer.proofs.Promises.{sheet_is}
@@ -27,12 +30,12 @@ use Rattle.reasons.proofs.Promises.{module_right, set_right}
 use Rattle.lines.specs.Prints.{TellsSteps, TellsRows}
 
 -- NO ROOM tells them by the bytes needed, 8 for each
-abbrev pub parts_in : SheetAnswer → ℕ
-parts_in (answer.Refused why) = 0
-parts_in answer.TooLong = 0
-parts_in (answer.NoRoom bytes) = bytes / 8
-parts_in (answer.Follows steps) = steps
-parts_in (answer.Not rows) = rows
+abbrev pub parts_in : Result Sheet SheetError → ℕ
+parts_in (Ok (sheet.Follows steps)) = steps
+parts_in (Ok (sheet.Not rows)) = rows
+parts_in (Err (refused.Refused why)) = 0
+parts_in (Err refused.TooLong) = 0
+parts_in (Err (refused.NoRoom bytes)) = bytes / 8
 
 module _ (n m : ℕ) (s ws : List ℕ) (a b : ℕ) where
   abbrev F : Type 0
@@ -49,7 +52,7 @@ module _ (n m : ℕ) (s ws : List ℕ) (a b : ℕ) where
       go positive false parts = omega arith
 
   -- of an answer that is the writer's
-  pub parts_tell : {sheet after : List ℕ} {r x : SheetAnswer} → Taken n m s ws a b → GivesSheet n m s ws a b sheet after (sheet_number r) (sheet_value r) → r ≡ x
+  pub parts_tell : {sheet after : List ℕ} {r x : Result Sheet SheetError} → Taken n m s ws a b → GivesSheet n m s ws a b sheet after (sheet_number r) (sheet_value r) → r ≡ x
       → (F → TellsSteps n m s ws a b (parts_in x)) × ((F → ⊥) → TellsRows n m s ws (parts_in x))
   parts_tell {sheet} {after} {r} {x} t g e =
       let q = taken_admitted n m s ws a b t in
@@ -63,5 +66,5 @@ module _ (n m : ℕ) (s ws : List ℕ) (a : ℕ) {out after : List ℕ} {k v : �
   pub module_told : Taken n m s ws a a → length out ≡ 16 → GivesModule n m s ws a out after k v → MarksModule s ws a (mark_count after) after
   module_told t l g = let p = (module_right n m s ws a out t l g).1 in rw p.count at p
 
-  pub set_told_lem : (b : ℕ) → Taken n m s ws a b × Follows (lines_of s) (counted s ws) a b → length out ≡ 16 → GivesSet n m s ws a b out after k v → MarksSet s ws a b (mark_count after) after
-  set_told_lem b t l g = let p = ((set_right n m s ws a b out t.0 l g).0 t.1).1 in rw p.count at p
+  pub set_told_lem : (b : ℕ) → Taken n m s ws a b → Follows (lines_of s) (counted s ws) a b → length out ≡ 16 → GivesSet n m s ws a b out after k v → MarksSet s ws a b (mark_count after) after
+  set_told_lem b t f l g = let p = ((set_right n m s ws a b out t l g).0 f).1 in rw p.count at p

@@ -13,6 +13,7 @@ use Rattle.text.specs.Text.Outcome.{refused, refused_at, follows, not_follows}
 use Rattle.text.proofs.LineLaws.{list_line_same, follows_of_marks, not_of_marks}
 use Rattle.pack.specs.declared.check.Refusal.{Refusal}
 use Rattle.pack.specs.declared.check.Refusal.TheVariants.{Sizes, Pack, Record, Marks, Goal}
+use Rattle.pack.specs.declared.question.Question.{Question}
 use Rattle.pack.specs.Question.{counted}
 use Rattle.pack.specs.Record.{lines_of}
 use Rattle.pack.proofs.RecordLaws.{lines_length}
@@ -66,38 +67,38 @@ module _ (n m : ℕ) (s ws : List ℕ) (a b : ℕ) where
   asked_one (not_follows c M) (follows c' M' S') p q = let e = (verdict_same n m s ws a b p.0 q.0).1 in absurd (omega arith)
   asked_one (not_follows c M) (not_follows c' M') p q = rw (p.1 ∙ sym q.1, module_line (letters "module ") M M' p.2 q.2)
 
-  module _ {before after : List ℕ} {end : ℕ} where
-    -- AN OUTCOME OF EACH SORT: refused
-    refused_not_3 : (number : ℕ) → (number ≡ 0 → ⊥) → (number ≡ 3 → ⊥) → GivesVerdict n m s ws a b number 0 → WroteText (refused number) before after end → WritesThe (PrintsAsked n m s ws a b) before after end
-    unfolding PrintsAsked
-    refused_not_3 number some other g w = record { outcome = refused number; is = (g, some, other); text = w }
+module _ (q : Question) {before after : List ℕ} {end : ℕ} where
+  -- AN OUTCOME OF EACH SORT: refused
+  refused_not_3 : (number : ℕ) → (number ≡ 0 → ⊥) → (number ≡ 3 → ⊥) → GivesVerdict q.n q.m q.pack.now q.marks.now q.a q.b number 0 → WroteText (refused number) before after end → WritesThe (PrintsAsked q.n q.m q.pack.now q.marks.now q.a q.b) before after end
+  unfolding PrintsAsked
+  refused_not_3 number some other g w = record { outcome = refused number; is = (g, some, other); text = w }
 
-    pub writes_record : {place : ℕ} → GivesVerdict n m s ws a b 3 place → WroteText (refused_at place) before after end → WritesThe (PrintsAsked n m s ws a b) before after end
-    unfolding PrintsAsked
-    writes_record {place} g w = record { outcome = refused_at place; is = g; text = w }
+  pub writes_record : {place : ℕ} → GivesVerdict q.n q.m q.pack.now q.marks.now q.a q.b 3 place → WroteText (refused_at place) before after end → WritesThe (PrintsAsked q.n q.m q.pack.now q.marks.now q.a q.b) before after end
+  unfolding PrintsAsked
+  writes_record {place} g w = record { outcome = refused_at place; is = g; text = w }
 
-    pub writes_refusal : (why : VerdictError) {number : ℕ} → number ≡ (verdict_error_told why).0 → (number ≡ 3 → ⊥) → GivesVerdict n m s ws a b (verdict_error_told why).0 (verdict_error_told why).1 → WroteText (refused number) before after end → WritesThe (PrintsAsked n m s ws a b) before after end
-    writes_refusal (Refused Sizes) {number} e h g w = refused_not_3 number (λ z. omega arith) h (rw e g) w
-    writes_refusal (Refused Pack) {number} e h g w = refused_not_3 number (λ z. omega arith) h (rw e g) w
-    writes_refusal (Refused (Record i)) e h g w = absurd (h e)
-    writes_refusal (Refused Marks) {number} e h g w = refused_not_3 number (λ z. omega arith) h (rw e g) w
-    writes_refusal (Refused Goal) {number} e h g w = refused_not_3 number (λ z. omega arith) h (rw e g) w
-    writes_refusal TooLong {number} e h g w = refused_not_3 number (λ z. omega arith) h (rw e g) w
+  pub writes_refusal : (why : VerdictError) {number : ℕ} → number ≡ (verdict_error_told why).0 → (number ≡ 3 → ⊥) → GivesVerdict q.n q.m q.pack.now q.marks.now q.a q.b (verdict_error_told why).0 (verdict_error_told why).1 → WroteText (refused number) before after end → WritesThe (PrintsAsked q.n q.m q.pack.now q.marks.now q.a q.b) before after end
+  writes_refusal (Refused Sizes) {number} e h g w = refused_not_3 number (λ z. omega arith) h (rw e g) w
+  writes_refusal (Refused Pack) {number} e h g w = refused_not_3 number (λ z. omega arith) h (rw e g) w
+  writes_refusal (Refused (Record i)) e h g w = absurd (h e)
+  writes_refusal (Refused Marks) {number} e h g w = refused_not_3 number (λ z. omega arith) h (rw e g) w
+  writes_refusal (Refused Goal) {number} e h g w = refused_not_3 number (λ z. omega arith) h (rw e g) w
+  writes_refusal TooLong {number} e h g w = refused_not_3 number (λ z. omega arith) h (rw e g) w
 
-    -- FOLLOWS, NOT: by the marks of the module and of the set
-    pub writes_follows : {c k l : ℕ} {module_words set_words : List ℕ} → GivesVerdict n m s ws a b 0 1 → TellsSteps n m s ws a b c → MarksModule s ws a k module_words → MarksSet s ws a b l set_words
-        → WroteText (follows c (marked module_words) (marked set_words)) before after end → WritesThe (PrintsAsked n m s ws a b) before after end
-    unfolding PrintsAsked
-    writes_follows {c} g t p q w = record {
-      outcome = follows c p.places q.places;
-      is = (g, t, (p.is, p.past), (q.is, q.past));
-      text = follows_of_marks p.places p.are c q.places q.are w;
-    }
+  -- FOLLOWS, NOT: by the marks of the module and of the set
+  pub writes_follows : {c k l : ℕ} {module_words set_words : List ℕ} → GivesVerdict q.n q.m q.pack.now q.marks.now q.a q.b 0 1 → TellsSteps q.n q.m q.pack.now q.marks.now q.a q.b c → MarksModule q.pack.now q.marks.now q.a k module_words → MarksSet q.pack.now q.marks.now q.a q.b l set_words
+      → WroteText (follows c (marked module_words) (marked set_words)) before after end → WritesThe (PrintsAsked q.n q.m q.pack.now q.marks.now q.a q.b) before after end
+  unfolding PrintsAsked
+  writes_follows {c} g t p r w = record {
+    outcome = follows c p.places r.places;
+    is = (g, t, (p.is, p.past), (r.is, r.past));
+    text = follows_of_marks p.places p.are c r.places r.are w;
+  }
 
-    pub writes_not : {c k : ℕ} {module_words : List ℕ} → GivesVerdict n m s ws a b 0 0 → TellsRows n m s ws c → MarksModule s ws a k module_words
-        → WroteText (not_follows c (marked module_words)) before after end → WritesThe (PrintsAsked n m s ws a b) before after end
-    unfolding PrintsAsked
-    writes_not {c} g t p w = record { outcome = not_follows c p.places; is = (g, t, (p.is, p.past)); text = not_of_marks p.places p.are c w }
+  pub writes_not : {c k : ℕ} {module_words : List ℕ} → GivesVerdict q.n q.m q.pack.now q.marks.now q.a q.b 0 0 → TellsRows q.n q.m q.pack.now q.marks.now c → MarksModule q.pack.now q.marks.now q.a k module_words
+      → WroteText (not_follows c (marked module_words)) before after end → WritesThe (PrintsAsked q.n q.m q.pack.now q.marks.now q.a q.b) before after end
+  unfolding PrintsAsked
+  writes_not {c} g t p w = record { outcome = not_follows c p.places; is = (g, t, (p.is, p.past)); text = not_of_marks p.places p.are c w }
 
 -- OF AN INPUT: its own refusal, or its question
 module _ (s : List ℕ) {before after : List ℕ} {end : ℕ} where
