@@ -9,7 +9,7 @@ pub returns-then-j-ge64 : goal.returns-then-j-ge64
 returns-then-j-ge64 c =
     gives_none
     (elim c.then-j-ge64.branch [
-      then-j-ge64-via-then-j-ge64 w ↦ record { none = λ j h g. absurd (omega (arith, w.if-j-ge64.true)) }
+      | then-j-ge64-via-then-j-ge64 w ↦ record { none = λ j h g. absurd (omega (arith, w.if-j-ge64.true)) }
       | then-j-ge64-via-else-j-ge64+then-w-j-eq0 w ↦ next_none _ _ c.ranges.w.fits (omega (arith, w.if-j-ge64.false)) w.if-w-j-eq0.true
     ])
 
