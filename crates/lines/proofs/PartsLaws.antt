@@ -52,12 +52,12 @@ module _ (n m : ℕ) (s ws : List ℕ) (a b : ℕ) where
       go positive false parts = omega arith
 
   -- of an answer that is the writer's
-  pub parts_tell : {sheet after : List ℕ} {r x : Result Sheet SheetError} → Taken n m s ws a b → GivesSheet n m s ws a b sheet after (sheet_number r) (sheet_value r) → r ≡ x
-      → (F → TellsSteps n m s ws a b (parts_in x)) × ((F → ⊥) → TellsRows n m s ws (parts_in x))
-  parts_tell {sheet} {after} {r} {x} t g e =
+  pub parts_tell : {sheet after : List ℕ} (r : Result Sheet SheetError) {parts : ℕ} → Taken n m s ws a b → GivesSheet n m s ws a b sheet after (sheet_number r) (sheet_value r) → parts ≡ parts_in r
+      → (F → TellsSteps n m s ws a b parts) × ((F → ⊥) → TellsRows n m s ws parts)
+  parts_tell {sheet} {after} r {parts} t g e =
       let q = taken_admitted n m s ws a b t in
-      let same : x ≡ ask_sheet n m s ws a b sheet = sym e ∙ (sheet_is n m s ws a b sheet {r = r} {after = after} g).0 in
-      let are : parts_in x ≡ our_parts n m s ws a b = rw same (parts_told sheet q) in
+      let same : r ≡ ask_sheet n m s ws a b sheet = (sheet_is n m s ws a b sheet {r = r} {after = after} g).0 in
+      let are : parts ≡ our_parts n m s ws a b = e ∙ rw same (parts_told sheet q) in
       let right = held_right n m s ws a b q.1 in
       (λ f. let yes = right.1 f in rw yes at are, λ no. let held = is_no (λ h. no (right.0 h)) in rw held at are)
 

@@ -1,18 +1,16 @@
--- `sheet_parts`: answer by answer, what it tells is the number of our steps or rows (`parts_tell`).
+-- `sheet_parts`: what the writer answers tells the number of our steps or rows (`parts_tell`).
+use borrow.Author.Rules.{rules}
 use Rattle.lines.proofs.PartsLaws.{parts_tell}
 use Rattle.lines.proofs.parts.sheet_parts.Goals as goal
 
-pub returns-in-Refused : goal.returns-in-Refused
-returns-in-Refused c = parts_tell _ _ _ _ _ _ c.requires c.write_sheet-answer.ensures c.in-Refused.is
+pub returns-in-Err-NoRoom-clause-follows : goal.returns-in-Err-NoRoom-clause-follows
+returns-in-Err-NoRoom-clause-follows c = let x = c.args.q.now in (parts_tell x.n x.m x.pack.now x.marks.now x.a x.b c.write_sheet.result c.requires c.write_sheet.ensures (search rules)).0
 
-pub returns-in-TooLong : goal.returns-in-TooLong
-returns-in-TooLong c = parts_tell _ _ _ _ _ _ c.requires c.write_sheet-answer.ensures c.in-TooLong.is
+pub returns-in-Err-NoRoom-clause-not : goal.returns-in-Err-NoRoom-clause-not
+returns-in-Err-NoRoom-clause-not c = let x = c.args.q.now in (parts_tell x.n x.m x.pack.now x.marks.now x.a x.b c.write_sheet.result c.requires c.write_sheet.ensures (search rules)).1
 
-pub returns-in-NoRoom : goal.returns-in-NoRoom
-returns-in-NoRoom c = parts_tell _ _ _ _ _ _ c.requires c.write_sheet-answer.ensures c.in-NoRoom.is
-
-pub returns-in-Follows : goal.returns-in-Follows
-returns-in-Follows c = parts_tell _ _ _ _ _ _ c.requires c.write_sheet-answer.ensures c.in-Follows.is
-
-pub returns-in-Not : goal.returns-in-Not
-returns-in-Not c = parts_tell _ _ _ _ _ _ c.requires c.write_sheet-answer.ensures c.in-Not.is
+pub returns-in-Err : goal.returns-in-Err
+returns-in-Err c =
+    let x = c.args.q.now in
+    let p = parts_tell x.n x.m x.pack.now x.marks.now x.a x.b c.write_sheet.result c.requires c.write_sheet.ensures (search rules) in
+    record { follows = p.0; not = p.1 }
