@@ -8,6 +8,7 @@ use lib.Dec.{leb}
 use lib.ListN.{length}
 use Rattle.bits.proofs.Truth.{is_no}
 use Rattle.marks.specs.Marks.{mark_count}
+use Rattle.pack.specs.declared.question.Question.{Question}
 use Rattle.pack.specs.Computed.{Admitted}
 use Rattle.pack.specs.Question.{counted, Taken}
 use Rattle.pack.specs.Record.{lines_of}
@@ -52,14 +53,18 @@ module _ (n m : ℕ) (s ws : List ℕ) (a b : ℕ) where
       go positive false parts = omega arith
 
   -- of an answer that is the writer's
-  pub parts_tell : {sheet after : List ℕ} (r : Result Sheet SheetError) {parts : ℕ} → Taken n m s ws a b → GivesSheet n m s ws a b sheet after (sheet_number r) (sheet_value r) → parts ≡ parts_in r
+  tell : {sheet after : List ℕ} (r : Result Sheet SheetError) {parts : ℕ} → Taken n m s ws a b → GivesSheet n m s ws a b sheet after (sheet_number r) (sheet_value r) → parts ≡ parts_in r
       → (F → TellsSteps n m s ws a b parts) × ((F → ⊥) → TellsRows n m s ws parts)
-  parts_tell {sheet} {after} r {parts} t g e =
+  tell {sheet} {after} r {parts} t g e =
       let q = taken_admitted n m s ws a b t in
       let same : r ≡ ask_sheet n m s ws a b sheet = (sheet_is n m s ws a b sheet {r = r} {after = after} g).0 in
       let are : parts ≡ our_parts n m s ws a b = e ∙ rw same (parts_told sheet q) in
       let right = held_right n m s ws a b q.1 in
       (λ f. let yes = right.1 f in rw yes at are, λ no. let held = is_no (λ h. no (right.0 h)) in rw held at are)
+
+pub parts_tell : (q : Question) {sheet after : List ℕ} (r : Result Sheet SheetError) {parts : ℕ} → Taken q.n q.m q.pack.now q.marks.now q.a q.b → GivesSheet q.n q.m q.pack.now q.marks.now q.a q.b sheet after (sheet_number r) (sheet_value r) → parts ≡ parts_in r
+    → let F = Follows (lines_of q.pack.now) (counted q.pack.now q.marks.now) q.a q.b in (F → TellsSteps q.n q.m q.pack.now q.marks.now q.a q.b parts) × ((F → ⊥) → TellsRows q.n q.m q.pack.now q.marks.now parts)
+parts_tell q = tell q.n q.m q.pack.now q.marks.now q.a q.b
 
 -- THE MARKS OF THE MODULE AND OF THE SET, of a question that is taken, in 16 words
 module _ (n m : ℕ) (s ws : List ℕ) (a : ℕ) {out after : List ℕ} {k v : ℕ} where

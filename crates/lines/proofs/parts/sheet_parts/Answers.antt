@@ -4,13 +4,12 @@ use Rattle.lines.proofs.PartsLaws.{parts_tell}
 use Rattle.lines.proofs.parts.sheet_parts.Goals as goal
 
 pub returns-in-Err-NoRoom-clause-follows : goal.returns-in-Err-NoRoom-clause-follows
-returns-in-Err-NoRoom-clause-follows c = let x = c.args.q.now in (parts_tell x.n x.m x.pack.now x.marks.now x.a x.b c.write_sheet.result c.requires c.write_sheet.ensures (search rules)).0
+returns-in-Err-NoRoom-clause-follows c = (parts_tell c.args.q.now c.write_sheet.result c.requires c.write_sheet.ensures (search rules)).0
 
 pub returns-in-Err-NoRoom-clause-not : goal.returns-in-Err-NoRoom-clause-not
-returns-in-Err-NoRoom-clause-not c = let x = c.args.q.now in (parts_tell x.n x.m x.pack.now x.marks.now x.a x.b c.write_sheet.result c.requires c.write_sheet.ensures (search rules)).1
+returns-in-Err-NoRoom-clause-not c = (parts_tell c.args.q.now c.write_sheet.result c.requires c.write_sheet.ensures (search rules)).1
 
 pub returns-in-Err : goal.returns-in-Err
 returns-in-Err c =
-    let x = c.args.q.now in
-    let p = parts_tell x.n x.m x.pack.now x.marks.now x.a x.b c.write_sheet.result c.requires c.write_sheet.ensures (search rules) in
+    let p = parts_tell c.args.q.now c.write_sheet.result c.requires c.write_sheet.ensures (search rules) in
     record { follows = p.0; not = p.1 }
