@@ -25,8 +25,7 @@ pub fn mark_all(pack: &[u8]) -> [u64; 16]
 // The steps or rows of our sheet, where the question is taken: what the writer says that a sheet of no bytes would need.
 pub fn sheet_parts(q: &Question) -> u32
     requires { Taken q.now.n q.now.m q.now.pack.now q.now.marks.now q.now.a q.now.b }
-    ensures follows { Follows (lines_of q.now.pack.now) (counted q.now.pack.now q.now.marks.now) q.now.a q.now.b → TellsSteps q.now.n q.now.m q.now.pack.now q.now.marks.now q.now.a q.now.b result }
-    ensures not { (Follows (lines_of q.now.pack.now) (counted q.now.pack.now q.now.marks.now) q.now.a q.now.b → ⊥) → TellsRows q.now.n q.now.m q.now.pack.now q.now.marks.now result }
+    ensures { (Follows (lines_of q.now.pack.now) (counted q.now.pack.now q.now.marks.now) q.now.a q.now.b → TellsSteps q.now.n q.now.m q.now.pack.now q.now.marks.now q.now.a q.now.b result) × ((Follows (lines_of q.now.pack.now) (counted q.now.pack.now q.now.marks.now) q.now.a q.now.b → ⊥) → TellsRows q.now.n q.now.m q.now.pack.now q.now.marks.now result) }
 {
     match write_sheet(q, &mut []) {
         Ok(Sheet::Follows(steps)) => steps,

@@ -3,13 +3,14 @@ use borrow.Author.Rules.{rules}
 use Rattle.lines.proofs.PartsLaws.{parts_tell}
 use Rattle.lines.proofs.parts.sheet_parts.Goals as goal
 
-pub returns-in-Err-NoRoom-clause-follows : goal.returns-in-Err-NoRoom-clause-follows
-returns-in-Err-NoRoom-clause-follows c = (parts_tell c.args.q.now c.write_sheet.result c.requires c.write_sheet.ensures (search rules)).0
+pub returns-in-Ok-Follows : goal.returns-in-Ok-Follows
+returns-in-Ok-Follows c = parts_tell c.args.q.now c.write_sheet.result c.requires c.write_sheet.ensures (search rules)
 
-pub returns-in-Err-NoRoom-clause-not : goal.returns-in-Err-NoRoom-clause-not
-returns-in-Err-NoRoom-clause-not c = (parts_tell c.args.q.now c.write_sheet.result c.requires c.write_sheet.ensures (search rules)).1
+pub returns-in-Ok-Not : goal.returns-in-Ok-Not
+returns-in-Ok-Not c = parts_tell c.args.q.now c.write_sheet.result c.requires c.write_sheet.ensures (search rules)
+
+pub returns-in-Err-NoRoom : goal.returns-in-Err-NoRoom
+returns-in-Err-NoRoom c = parts_tell c.args.q.now c.write_sheet.result c.requires c.write_sheet.ensures (search rules)
 
 pub returns-in-Err : goal.returns-in-Err
-returns-in-Err c =
-    let p = parts_tell c.args.q.now c.write_sheet.result c.requires c.write_sheet.ensures (search rules) in
-    record { follows = p.0; not = p.1 }
+returns-in-Err c = parts_tell c.args.q.now c.write_sheet.result c.requires c.write_sheet.ensures (search rules)

@@ -22,9 +22,9 @@ sheet_parts-requires c = given_taken c.args.q.now (given_as c.args.q.now (Ok Fol
 pub returns-in-Ok-Follows : goal.returns-in-Ok-Follows
 returns-in-Ok-Follows c =
     let g = given_as c.args.q.now (Ok Follows) (search rules) c.verdict.ensures in
-    writes_follows c.args.q.now g (c.sheet_parts.ensures.follows (given_follows c.args.q.now g refl)) c.module_marks-module.ensures c.set_marks-set.ensures c.write_follows.ensures
+    writes_follows c.args.q.now g (c.sheet_parts.ensures.0 (given_follows c.args.q.now g refl)) c.module_marks-module.ensures c.set_marks-set.ensures c.write_follows.ensures
 
 pub returns-in-Ok-Not : goal.returns-in-Ok-Not
 returns-in-Ok-Not c =
     let g = given_as c.args.q.now (Ok Not) (search rules) c.verdict.ensures in
-    writes_not c.args.q.now g (c.sheet_parts-in-Ok-Not.ensures.not (given_not c.args.q.now g refl)) c.module_marks.ensures c.write_not.ensures
+    writes_not c.args.q.now g (c.sheet_parts-in-Ok-Not.ensures.1 (given_not c.args.q.now g refl)) c.module_marks.ensures c.write_not.ensures
