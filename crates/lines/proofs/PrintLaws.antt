@@ -2,16 +2,15 @@
 use mathlib.Core.Path.{◌≡◌, refl, sym, ap, ◌∙◌}
 use mathlib.Core.Bool.{Bool}
 use mathlib.Core.List.{List}
-use Prim.Native.Nat.{ℕ, ◌-◌, ◌<◌}
+use Prim.Native.Nat.{ℕ, ◌<◌}
 use native.Mathlib.Decide.{dec_lt}
 use native.Mathlib.Omega.{arith}
-use lib.ListN.{length, take, drop}
+use lib.ListN.{length, take}
 use Rattle.std.proofs.Common.{Result, Ok, Err}
 use Rattle.marks.specs.Marks.{marked}
 use Rattle.text.specs.Text.{Outcome, WroteText, list_line, text_of, letters}
 use Rattle.text.specs.Text.Outcome.{refused, refused_at, follows, not_follows}
 use Rattle.text.proofs.LineLaws.{list_line_same, follows_of_marks, not_of_marks}
-use Rattle.pack.specs.declared.check.Refusal.{Refusal}
 use Rattle.pack.specs.declared.check.Refusal.TheVariants.{Sizes, Pack, Record, Marks, Goal}
 use Rattle.pack.specs.declared.question.Question.{Question}
 use Rattle.pack.specs.Question.{counted}

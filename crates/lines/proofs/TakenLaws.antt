@@ -1,5 +1,5 @@
 -- A question that the verdict does not refuse is taken, also as a question about its first concept; 1 is given where the goal follows, 0 where it does not.
-use mathlib.Core.Path.{◌≡◌, refl, ap, ◌∙◌}
+use mathlib.Core.Path.{◌≡◌, refl}
 use mathlib.Core.List.{List}
 use Prim.Native.Nat.{ℕ}
 use native.Mathlib.Omega.{arith}
