@@ -1,19 +1,23 @@
--- `set_of`: for a equal to b no record is needed (`same_words`); else the goal follows from the module
--- (`inside_follows`), and what is picked from the module is the printed set (`inside_set`).
-use Rattle.reasons.proofs.AnswerLaws.{same_words, inside_taken, inside_words, inside_follows, inside_set}
+-- `set_of`: the goal follows from the module (`inside_follows`), and what is picked from the module is the printed set (`inside_set`).
+use mathlib.Core.Path.{ap, ◌∙◌}
+use lib.ListN.{length}
+use Rattle.marks.proofs.WordLaws.{marks_length}
+use Rattle.reasons.proofs.AnswerLaws.{inside_fewer, inside_follows, inside_set}
 use Rattle.reasons.proofs.set.set_of.Goals as goal
 
-pub returns-then-a-b : goal.returns-then-a-b
-returns-then-a-b c = let pre = c.requires in same_words _ _ _ _ _ _ pre.0 pre.1 c.if-a-b.true
-
-pub module_of-inside-requires : goal.module_of-inside-requires
-module_of-inside-requires c = (_, c.requires.0)
+pub with_marks-requires : goal.with_marks-requires
+with_marks-requires c =
+    let e = c.module_of-inside.ensures in
+    (ap length e ∙ marks_length _, inside_fewer _ _ _ _ _ _ c.args.q.now.admitted c.requires _ e)
 
 pub pick-requires : goal.pick-requires
 pick-requires c =
-    let pre = c.requires in
-    let e = c.module_of-inside.ensures in
-    (inside_taken _ _ _ _ _ _ pre.0 pre.1 _ e, c.if-a-b.false, inside_words _ _ _ _ _ _ pre.0 pre.1 _ e, inside_follows _ _ _ _ _ _ pre.0 pre.1 _ e)
+    let words = c.with_marks.ensures.words in
+    let goal = c.with_marks.ensures.goal in
+    rw (words.0, words.1, goal.0, goal.1) (inside_follows _ _ _ _ _ _ c.args.q.now.admitted c.requires _ c.module_of-inside.ensures)
 
 pub returns : goal.returns
-returns c = let pre = c.requires in inside_set _ _ _ _ _ _ pre.0 pre.1 _ c.module_of-inside.ensures _ c.pick.ensures.words c.pick.ensures.picked
+returns c =
+    let words = c.with_marks.ensures.words in
+    let goal = c.with_marks.ensures.goal in
+    inside_set _ _ _ _ _ _ c.args.q.now.admitted c.requires _ c.module_of-inside.ensures _ (rw words.1 at c.pick.ensures.words) (rw (words.0, words.1, goal.0, goal.1) at c.pick.ensures.picked)
