@@ -10,13 +10,13 @@ use native.Mathlib.Omega.{arith}
 use lib.Dec.{eqb, ltb, leb}
 use lib.ListN.{length}
 use borrow.Author.Tests.{ltb-true, ltb-false, leb-true, eqb-true, ne_eqb, eq-eqb, le-leb, not-true, not-false}
+use Rattle.std.specs.Prelude.{Result, Ok, Err}
 use Rattle.bits.specs.Sets.{lowest}
 use Rattle.bits.proofs.Promises.{no_second}
 use Rattle.bits.proofs.SetLaws.{lowest_is, lowest_at}
 use Rattle.bits.proofs.Truth.{both_true, true_both, never, is_no}
 use Rattle.pack.specs.declared.check.Refusal.{Refusal}
 use Rattle.pack.specs.declared.check.Refusal.TheVariants.{Sizes, Pack, Record, Marks, Goal}
-use Rattle.pack.specs.declared.check.Checked.TheVariants as checked
 use Rattle.pack.specs.declared.line.Line.{Line}
 use Rattle.pack.specs.Question.{counted, question_rows, Taken}
 use Rattle.pack.specs.Computed.{obeys, check_question, refusal_number, refusal_place}
@@ -26,12 +26,12 @@ use Rattle.pack.specs.World.{World, Is, line_at, ObeysLine, Obeys, Follows}
 use Rattle.pack.proofs.GivenLaws.{given_same, lowest_here, lowest_none, given_after, given_zero, told, refusal_of}
 use Rattle.pack.proofs.Promises.{question_numbered, question_given, taken_admitted}
 use Rattle.pack.proofs.WorldLaws.{obeys_line, line_obeys}
-use Rattle.no.specs.declared.check.NoAnswer.{NoAnswer}
-use Rattle.no.specs.declared.check.NoAnswer.TheVariants as no
+use Rattle.no.specs.declared.check.NoError.{NoError}
+use Rattle.no.specs.declared.check.NoError.TheVariants as no
 use Rattle.no.specs.NoSheet.{rows_of, things_in, forbidden, world_of}
 use Rattle.no.specs.Computed.{things_by, no_length_by, lowest_forbidden, lowest_broken, refutes, check_world, check_rows, check_no, no_number, no_place}
 use Rattle.no.specs.Answers.{no_told, row_rows, GivesNo}
-use Rattle.no.proofs.NoLaws.{refuting, refuted, broken_at, no_sound, world_accepts}
+use Rattle.no.proofs.NoLaws.{rows_fit, refuting, refuted, broken_at, no_sound, world_accepts}
 
 -- THE NUMBER OF THINGS by division is the one that is meant
 module _ (m : ℕ) (sheet : List ℕ) where
@@ -76,32 +76,29 @@ module _ (m : ℕ) (sheet : List ℕ) where
           (true_both (leb 1 (things_by m sheet)) (leb (things_by m sheet) 64) (le-leb 1 (things_by m sheet) (omega arith)) (le-leb (things_by m sheet) 64 (omega arith)))) h
 
   things_few : no_length_by m sheet ≡ true → 64 < things_by m sheet → ⊥
-  things_few h l =
-      let k = things_by m sheet in
-      let p = both_true (eqb (length sheet % (8 * (1 + m))) 0) (leb 1 k && leb k 64) h in
-      omega (arith, leb-true k 64 (both_true (leb 1 k) (leb k 64) p.1).1)
+  things_few h l = omega (arith, (rows_fit m sheet (refl, h)).0)
 
 -- an answer is told by its number and place
-pub no_told_by : (x y : NoAnswer) → no_number x ≡ no_number y → no_place x ≡ no_place y → x ≡ y
+pub no_told_by : (x y : Result (Unit {0}) NoError) → no_number x ≡ no_number y → no_place x ≡ no_place y → x ≡ y
 unfolding refusal_of
 no_told_by = told no_number no_place no_of back
   where
-    no_of : ℕ → ℕ → NoAnswer
+    no_of : ℕ → ℕ → Result (Unit {0}) NoError
     no_of k i =
-        cond (eqb k 0) no.Accepted
-        (cond (eqb k 9) no.Length (cond (eqb k 11) (no.Row i) (cond (eqb k 12) (no.Broken i) (cond (eqb k 13) no.NotShown (no.Refused (refusal_of k i))))))
+        cond (eqb k 0) (Ok tt)
+        (Err (cond (eqb k 9) no.Length (cond (eqb k 11) (no.Row i) (cond (eqb k 12) (no.Broken i) (cond (eqb k 13) no.NotShown (no.Refused (refusal_of k i)))))))
 
-    back : (x : NoAnswer) → no_of (no_number x) (no_place x) ≡ x
-    back (no.Refused Sizes) = refl
-    back (no.Refused Pack) = refl
-    back (no.Refused (Record i)) = refl
-    back (no.Refused Marks) = refl
-    back (no.Refused Goal) = refl
-    back no.Length = refl
-    back (no.Row i) = refl
-    back (no.Broken i) = refl
-    back no.NotShown = refl
-    back no.Accepted = refl
+    back : (x : Result (Unit {0}) NoError) → no_of (no_number x) (no_place x) ≡ x
+    back (Err (no.Refused Sizes)) = refl
+    back (Err (no.Refused Pack)) = refl
+    back (Err (no.Refused (Record i))) = refl
+    back (Err (no.Refused Marks)) = refl
+    back (Err (no.Refused Goal)) = refl
+    back (Err no.Length) = refl
+    back (Err (no.Row i)) = refl
+    back (Err (no.Broken i)) = refl
+    back (Err no.NotShown) = refl
+    back (Ok _) = refl
 
 module _ (n m : ℕ) (s ws : List ℕ) (a b : ℕ) (sheet : List ℕ) where
   abbrev accepted : ℕ → Type 0
@@ -144,15 +141,15 @@ module _ (n m : ℕ) (s ws : List ℕ) (a b : ℕ) (sheet : List ℕ) where
       from : (i : ℕ) → i < length ls → Broken i → broken_at w ls S i ≡ true
       from i _ h = true_both (S i) (not (obeys w (line_at ls i))) h.0 (ap not (is_no (λ o. h.1 (obeys_line w (line_at ls i) o))))
 
-      shown : (v : Bool) → refutes w a b ≡ v → let r = cond v no.Accepted no.NotShown in (r ≡ no.Accepted → Follows ls S a b → ⊥)
+      shown : (v : Bool) → refutes w a b ≡ v → let r = cond v (Ok tt) (Err no.NotShown) in (r ≡ Ok tt → Follows ls S a b → ⊥)
           → ((((x : ℕ) → x < k → Is w x a → Is w x b) × (no_number r ≡ 13) × (no_place r ≡ 0)) × Unit {0})
           ⊎ (((j v : ℕ) → ((x : ℕ) → x < k → Is w x a → Is w x b) × (j ≡ 13) × (v ≡ 0) → ⊥) × ((no_number r ≡ 0) × accepted (no_place r)))
       shown false e h = inl (((λ x l i. not-false (w.is_in x b) (is_no (λ q. never (refuted w a b x l i (not-true (w.is_in x b) q)) e))), refl, refl), tt)
       shown true e h = inr ((λ _ _ g. let t = refuting w a b e in never (g.0 t.0 t.1 t.2) t.3), (refl, (refl, h refl)))
 
       go : (p t u v : Bool) → no_length_by m sheet ≡ p → ltb row (rows_of m k) ≡ t → ltb place (length ls) ≡ u → refutes w a b ≡ v
-          → let r = cond p (cond t (no.Row row) (cond u (no.Broken place) (cond v no.Accepted no.NotShown))) no.Length in
-          (r ≡ no.Accepted → Follows ls S a b → ⊥) → Given (Unit {0}) (row_rows n m (things_in m sheet) ls S a b sheet) accepted (no_number r) (no_place r)
+          → let r = cond p (cond t (Err (no.Row row)) (cond u (Err (no.Broken place)) (cond v (Ok tt) (Err no.NotShown)))) (Err no.Length) in
+          (r ≡ Ok tt → Follows ls S a b → ⊥) → Given (Unit {0}) (row_rows n m (things_in m sheet) ls S a b sheet) accepted (no_number r) (no_place r)
       go false t u v e f g h q = inl ((things_none m sheet e, refl, refl), tt)
       go true true u v e f g h q =
           rw (things_by_lem m sheet e)
@@ -176,11 +173,11 @@ module _ (n m : ℕ) (s ws : List ℕ) (a b : ℕ) (sheet : List ℕ) where
             ),
           ))
 
-  pub no_refused : {why : Refusal} → check_question n m s ws a b ≡ checked.Refused why → GivesNo n m s ws a b sheet (refusal_number why) (refusal_place why)
+  pub no_refused : {why : Refusal} → check_question n m s ws a b ≡ Err why → GivesNo n m s ws a b sheet (refusal_number why) (refusal_place why)
   unfolding check_no
   no_refused e = rw e at no_given
 
-  pub no_told_lem : {r : NoAnswer} → r ≡ check_no n m s ws a b sheet → GivesNo n m s ws a b sheet (no_number r) (no_place r)
+  pub no_told_lem : {r : Result (Unit {0}) NoError} → r ≡ check_no n m s ws a b sheet → GivesNo n m s ws a b sheet (no_number r) (no_place r)
   no_told_lem e = rw e no_given
 
   -- one number and one value are given
@@ -188,7 +185,7 @@ module _ (n m : ℕ) (s ws : List ℕ) (a b : ℕ) (sheet : List ℕ) where
   no_same = given_same (Unit {0}) accepted (question_rows n m s ws a b ++ row_rows n m (things_in m sheet) (lines_of s) (counted s ws) a b sheet) (λ x y g h. no_second g.0 h.0)
 
   -- NO SECOND RESULT
-  pub no_fixed : (r r' : NoAnswer) → GivesNo n m s ws a b sheet (no_told r).0 (no_told r).1 → GivesNo n m s ws a b sheet (no_told r').0 (no_told r').1 → r ≡ r'
+  pub no_fixed : (r r' : Result (Unit {0}) NoError) → GivesNo n m s ws a b sheet (no_told r).0 (no_told r).1 → GivesNo n m s ws a b sheet (no_told r').0 (no_told r').1 → r ≡ r'
   no_fixed r r' p q = let e = no_same p q in no_told_by r r' e.0 e.1
 
   -- AN ACCEPTED SHEET IS RIGHT: the goal does not follow from the records that count
@@ -208,5 +205,5 @@ module _ (n m : ℕ) (s ws : List ℕ) (a b : ℕ) (sheet : List ℕ) where
       by false e = absurd (omega (arith, things_none m sheet e))
       by true e =
           let k = things_by_lem m sheet e in
-          no_told_lem {r = no.Accepted}
+          no_told_lem {r = Ok tt}
           (sym (world_accepts n m s ws a b sheet (taken_admitted n m s ws a b t).1 e (rw k at clean) (rw k at o) x (rw k at l) i q))

@@ -1,19 +1,109 @@
 -- Laws of a thing and its row: tests over 64 bits, and over the k things that a row speaks of.
 use mathlib.Core.Path.{◌≡◌, refl, sym, ap, ◌∙◌}
-use mathlib.Core.Bool.{Bool, true, false, not, ◌&&◌, and-true}
-use Prim.Native.Nat.{ℕ, suc, ◌-◌, ◌^◌, ◌≤◌, ◌<◌}
-use native.Mathlib.Decide.{dec_lt}
-use native.Mathlib.Omega.{arith, by_contra}
+use mathlib.Core.Bool.{Bool, true, false, cond, not, ◌&&◌, ◌||◌}
+use mathlib.Core.List.{List, [], ◌∷◌}
+use Prim.Native.Nat.{ℕ, zero, suc, ◌+◌, ◌-◌, ◌^◌, ◌≤◌, ◌<◌}
+use native.Mathlib.Decide.{ℕ_discrete, dec_lt}
+use native.Mathlib.Nat.{zero-add}
+use native.Mathlib.Omega.{arith}
 use lib.Bits.{bit_and}
 use lib.Dec.{eqb}
+use Rattle.std.specs.Prelude.{filter, Option, Some, None, MatchOption}
+use Rattle.std.specs.List.{range_with_len, list_all, list_any, FoldsTo}
+use Rattle.std.specs.Iterator.{Yields, CallableAtEachTurn}
 use borrow.Author.Tests.{eq-eqb, ne_eqb, eqb-true, eqb-false, not-true, not-false}
 use Rattle.bits.specs.Bit.{has}
-use Rattle.bits.specs.Sets.{lowest, every, some}
-use Rattle.bits.proofs.Truth.{and_no, alike, never, is_no}
-use Rattle.bits.proofs.SetLaws.{Lowest, lowest_is, lowest_at, every_true, true_every, every_false, some_true, true_some, some_false}
+use Rattle.bits.specs.Sets.{lowest, found_below, every, some}
+use Rattle.bits.proofs.Truth.{both_true, true_both, or_elim, or_left, or_right, alike, never, is_no}
+use Rattle.bits.proofs.SetLaws.{none_lowest, lowest_at, every_true, true_every, some_true, true_some, some_false}
+use Rattle.bits.specs.Walk.{WalkStep}
+use Rattle.bits.proofs.FoundLaws.{found, at_found, end_found}
 use Rattle.bits.proofs.BitLaws.{meets_none, none_meets, contained, contains}
 use Rattle.pack.specs.Computed.{implies}
 use Rattle.pack.proofs.WorldLaws.{implies_true, true_implies}
+
+-- over the numbers below n: the test of the list of them is that of the set
+module _ (p : ℕ → Bool) where
+  all_each : (n a : ℕ) → list_all p (range_with_len a n) ≡ true → (j : ℕ) → a ≤ j → j < a + n → p j ≡ true
+  all_each zero a h j g l = absurd (omega arith)
+  all_each (suc n) a h j g l = go (ℕ_discrete a j) (both_true (p a) (list_all p (range_with_len (a + 1) n)) h) (all_each n (a + 1))
+    where
+      go : Dec (a ≡ j) → (p a ≡ true) × (list_all p (range_with_len (a + 1) n) ≡ true)
+          → (list_all p (range_with_len (a + 1) n) ≡ true → (j : ℕ) → a + 1 ≤ j → j < a + 1 + n → p j ≡ true) → p j ≡ true
+      go (yes e) b rest = ap p (sym e) ∙ b.0
+      go (no e) b rest = rest b.1 j (omega arith) (omega arith)
+
+  each_all : (n a : ℕ) → ((j : ℕ) → a ≤ j → j < a + n → p j ≡ true) → list_all p (range_with_len a n) ≡ true
+  each_all zero a f = refl
+  each_all (suc n) a f = true_both (p a) (list_all p (range_with_len (a + 1) n)) (f a (omega arith) (omega arith)) (each_all n (a + 1) (λ j g l. f j (omega arith) (omega arith)))
+
+  any_each : (n a : ℕ) → list_any p (range_with_len a n) ≡ true → (j : ℕ) × (j < a + n) × (p j ≡ true)
+  any_each zero a h = never {a = false} h refl
+  any_each (suc n) a h =
+      or_elim {C = (j : ℕ) × (j < a + suc n) × (p j ≡ true)} (p a) (list_any p (range_with_len (a + 1) n)) h
+      (λ e. (a, omega arith, e))
+      (λ e. let r = any_each n (a + 1) e in let l = r.1 in (r.0, omega arith, r.2))
+
+  each_any : (n a j : ℕ) → a ≤ j → j < a + n → p j ≡ true → list_any p (range_with_len a n) ≡ true
+  each_any zero a j g l h = absurd (omega arith)
+  each_any (suc n) a j g l h = go (ℕ_discrete a j) (each_any n (a + 1) j)
+    where
+      go : Dec (a ≡ j) → (a + 1 ≤ j → j < a + 1 + n → p j ≡ true → list_any p (range_with_len (a + 1) n) ≡ true) → (p a || list_any p (range_with_len (a + 1) n)) ≡ true
+      go (yes e) rest = or_left (p a) (list_any p (range_with_len (a + 1) n)) (ap p e ∙ h)
+      go (no e) rest = or_right (p a) (list_any p (range_with_len (a + 1) n)) (rest (omega arith) (omega arith) h)
+
+  pub list_every : (n : ℕ) → list_all p (range_with_len 0 n) ≡ every n p
+  list_every n =
+      alike (list_all p (range_with_len 0 n)) (every n p)
+      (λ h. true_every p n (λ j l. all_each n 0 h j (omega arith) (omega arith)))
+      (λ h. each_all n 0 (λ j g l. every_true p n h j (omega arith)))
+
+  pub list_some : (n : ℕ) → list_any p (range_with_len 0 n) ≡ some n p
+  list_some n =
+      alike (list_any p (range_with_len 0 n)) (some n p)
+      (λ h. let r = any_each n 0 h in let l = r.1 in true_some p n r.0 (omega arith) r.2)
+      (λ h. let r = some_true p n h in let l = r.1 in each_any n 0 r.0 (omega arith) (omega arith) r.2)
+
+-- those of a list that are in p: each has q where each of the list that is in p does
+pub list_filter : (p q : ℕ → Bool) (xs : List ℕ) → list_all q (filter p xs) ≡ list_all (λ j. implies (p j) (q j)) xs
+unfolding implies
+list_filter p q [] = refl
+list_filter p q (x ∷ xs) = go (p x) (list_filter p q xs)
+  where
+    go : (t : Bool) → list_all q (filter p xs) ≡ list_all (λ j. implies (p j) (q j)) xs → list_all q (cond t (x ∷ filter p xs) (filter p xs)) ≡ ((not t || q x) && list_all (λ j. implies (p j) (q j)) xs)
+    go true e = ap (λ (t : Bool). q x && t) e
+    go false e = e
+
+-- steps that leave a value as it was
+folds_same : {P : Type 0} (R : P → ℕ → P → Type 0) → ((p : P) (x : ℕ) (q : P) → R p x q → q ≡ p) → (xs : List ℕ) (p q : P) → FoldsTo R p xs q → q ≡ p
+folds_same R same [] p q e = sym e
+folds_same R same (x ∷ xs) p q y = folds_same R same xs y.0 q y.2 ∙ same p x y.0 y.1
+
+-- WHAT MAY BE ASKED OF A CLOSURE over a walk: it is called at numbers of the set below c
+module _ {S K : Type 0} (c : ℕ) (set : K → ℕ → Bool) (holds : S → K) (from : S → ℕ) where
+  walk_held : (xs : List ℕ) (s t : S) → Yields (WalkStep c set holds from) s xs t → holds t ≡ holds s
+  walk_held [] s t e = ap holds (sym e)
+  walk_held (x ∷ xs) s t y = walk_held xs y.0 t y.2 ∙ y.1.keeps
+
+  pub walk_serves : {P : Type 0} (R : P → ℕ → P → Type 0) (Q : P → ℕ → Type 0) (s : S) (p : P) → ((p : P) (x : ℕ) (q : P) → R p x q → q ≡ p) → ((x : ℕ) → x < c → set (holds s) x ≡ true → Q p x)
+      → CallableAtEachTurn (WalkStep c set holds from) R Q s p
+  walk_serves R Q s p same ask =
+      record {
+        at = λ xs t q x u y f h.
+            let g = found h.gives in
+            rw (folds_same R same xs p q f) (ask x g.there (rw (walk_held xs s t y) at g.here));
+      }
+
+-- the first number of a set below c is the lowest
+pub lowest_first : (p : ℕ → Bool) (c i : ℕ) → i < c → ((j : ℕ) → j < i → p j ≡ false) → p i ≡ true → lowest p 0 c ≡ i
+lowest_first p c i l none found =
+    sym (lowest_at p (record { from = omega arith; within = omega arith; none = λ j g h. none j h; found = λ h. found }))
+
+-- and the one that `find` gives
+pub found_first : (p : ℕ → Bool) (c : ℕ) (r : Option ℕ)
+    → MatchOption r ((j : ℕ) → 0 ≤ j → j < c → p j ≡ false) (λ i. (0 ≤ i) × (i < c) × (p i ≡ true) × ((j : ℕ) → 0 ≤ j → j < i → p j ≡ false)) → r ≡ found_below c (lowest p 0 c)
+found_first p c None f = sym (end_found (omega (arith, none_lowest p 0 c (λ j g l. f j g (omega (arith, zero-add c))), zero-add c)))
+found_first p c (Some i) f = let e : lowest p 0 c ≡ i = lowest_first p c i f.1 (λ j l. f.3 j (omega arith) l) f.2 in rw e (sym (at_found f.1))
 
 -- two words meet
 pub meet : (x y : ℕ) → x < 2 ^ 64 → not (eqb (bit_and x y) 0) ≡ some 64 (λ j. has x j && has y j)
@@ -52,51 +142,3 @@ some_things p q k h e f =
     at : (j : ℕ) → p j ≡ true → Dec (j < k) → some k q ≡ true
     at j s (yes l) = true_some q k j l (sym (e j l) ∙ s)
     at j s (no l) = never s (f j (omega arith))
-
--- a walk over the set bits of a word w, which takes bit after bit off: each bit before y that is set is ok, the rest has
--- w's bits from y on, and y is the lowest bit of the rest, or 64
-module _ (w : ℕ) (ok : ℕ → Bool) where
-  abbrev pub OkBefore : ℕ → ℕ → Type 0
-  OkBefore rest y = ((j : ℕ) → j < y → implies (has w j) (ok j) ≡ true) × ((j : ℕ) → y ≤ j → has rest j ≡ has w j) × Lowest (has rest) 0 64 y
-
-  pub pass_start : {r : ℕ} → r ≡ lowest (has w) 0 64 → OkBefore w r
-  pass_start {r} e =
-      let f : Lowest (has w) 0 64 r = rw e (lowest_is (has w) 0 64) in
-      ((λ j h. true_implies (has w j) (ok j) (λ t. never t (f.none j (omega arith) h))), (λ j h. refl), f)
-
-  pub pass_bit : (rest y : ℕ) → y < 64 → OkBefore rest y → has w y ≡ true
-  pass_bit rest y h p = sym (p.1 y (omega arith)) ∙ p.2.found (omega arith)
-
-  pub pass_on : (rest y next : ℕ) {r : ℕ} → y < 64 → OkBefore rest y → ok y ≡ true → ((j : ℕ) → has next j ≡ (has rest j && not (eqb (lowest (has rest) 0 64) j))) → r ≡ lowest (has next) 0 64 → OkBefore next r × (y < r)
-  pass_on rest y next {r} h p o g e =
-      ((λ j k. true_implies (has w j) (ok j) (λ t. at j k t (dec_lt j y) (dec_lt y j)), (λ j k. later j (omega (arith, past_y))), f), past_y)
-    where
-      f : Lowest (has next) 0 64 r
-      f = rw e (lowest_is (has next) 0 64)
-
-      -- what is left: the bits of the rest but y
-      left : (j : ℕ) → has next j ≡ (has rest j && not (eqb y j))
-      left j = rw (lowest_at (has rest) p.2) (g j)
-
-      later : (j : ℕ) → y < j → has next j ≡ has w j
-      later j l = left j ∙ rw (ne_eqb y j (λ q. omega arith), and-true) (p.1 j (omega arith))
-
-      -- none of them is at y or before
-      gone : (j : ℕ) → Dec (j < y) → j ≤ y → has next j ≡ false
-      gone j (yes l) k = left j ∙ rw (p.2.none j (omega arith) l)
-      gone j (no l) k = left j ∙ and_no (has rest j) _ (rw (eq-eqb y j (omega arith)))
-
-      past_y : y < r
-      past_y = by_contra (suc y) r (λ l. never (f.found (omega arith)) (gone r (dec_lt r y) (omega arith)))
-
-      at : (j : ℕ) → j < r → has w j ≡ true → Dec (j < y) → Dec (y < j) → ok j ≡ true
-      at j k t (yes a) b = implies_true (has w j) (ok j) (p.0 j a) t
-      at j k t (no a) (yes b) = never t (sym (later j b) ∙ f.none j (omega arith) k)
-      at j k t (no a) (no b) = let same : y ≡ j = omega arith in ap ok (sym same) ∙ o
-
-  pub pass_end : (k rest y : ℕ) → k ≤ 64 → 64 ≤ y → OkBefore rest y → true ≡ every k (λ j. implies (has w j) (ok j))
-  pass_end k rest y h l p = sym (true_every (λ j. implies (has w j) (ok j)) k (λ j i. p.0 j (omega arith)))
-
-  pub pass_fails : (k y : ℕ) → y < k → has w y ≡ true → ok y ≡ false → false ≡ every k (λ j. implies (has w j) (ok j))
-  unfolding implies
-  pass_fails k y h t o = sym (every_false (λ j. implies (has w j) (ok j)) k y h (rw (t, o)))

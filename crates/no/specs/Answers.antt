@@ -1,22 +1,24 @@
 -- What the no check gives: the number of each answer with the row or place that comes with it, and its rows of document 01's table.
-use Rattle.std.specs.Prelude.{◌≡◌, Bool, true, List, [], ◌∷◌, ◌++◌, ℕ, ◌<◌, length}
+use Rattle.std.specs.Prelude.{◌≡◌, Bool, true, List, [], ◌∷◌, ◌++◌, ℕ, ◌<◌, length, Result}
 use Rattle.pack.specs.declared.line.Line.{Line}
-use Rattle.pack.specs.Answers.{refusal_told}
+use Rattle.pack.specs.Answers.{refusal_told, nothing_told, answer_told}
 use Rattle.pack.specs.Record.{lines_of}
 use Rattle.pack.specs.Question.{counted, question_rows}
 use Rattle.pack.specs.Table.{Row, refuse, refuse_at, Given}
 use Rattle.pack.specs.World.{World, Is, line_at, ObeysLine, Follows}
-use Rattle.no.specs.declared.check.NoAnswer.{NoAnswer}
-use Rattle.no.specs.declared.check.NoAnswer.TheVariants as no
+use Rattle.no.specs.declared.check.NoError.{NoError}
+use Rattle.no.specs.declared.check.NoError.TheVariants as no
 use Rattle.no.specs.NoSheet.{rows_of, things_in, forbidden, world_of}
 
-abbrev pub no_told : NoAnswer → ℕ × ℕ
-no_told (no.Refused why) = refusal_told why
-no_told no.Length = (9, 0)
-no_told (no.Row i) = (11, i)
-no_told (no.Broken i) = (12, i)
-no_told no.NotShown = (13, 0)
-no_told no.Accepted = (0, 0)
+abbrev pub no_error_told : NoError → ℕ × ℕ
+no_error_told (no.Refused why) = refusal_told why
+no_error_told no.Length = (9, 0)
+no_error_told (no.Row i) = (11, i)
+no_error_told (no.Broken i) = (12, i)
+no_error_told no.NotShown = (13, 0)
+
+abbrev pub no_told : Result (Unit {0}) NoError → ℕ × ℕ
+no_told = answer_told nothing_told no_error_told
 
 -- 12 BROKEN with the lowest place that counts and whose line the world does not obey, 13 NOT SHOWN where each thing of a is in b
 abbrev pub world_rows : World → List Line → (ℕ → Bool) → ℕ → ℕ → List Row

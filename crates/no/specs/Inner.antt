@@ -21,11 +21,6 @@ ColumnFor w (ChainUnder r s t) word = Unit {0}
 ColumnFor w (ToItself r) word = Unit {0}
 ColumnFor w NoLine word = Unit {0}
 
--- the concept rows of k things are in the sheet
-pub record ThingsFit (k : ℕ) (sheet : List ℕ) : Type 0 where
-  pub few : k ≤ 64
-  pub rows : k ≤ length sheet / 8
-
 -- the rows of role r are in the sheet, and no link of theirs leaves the k things
 pub record RoleFits (k : ℕ) (sheet : List ℕ) (r : ℕ) : Type 0 where
   pub rows : k + (r * k + k) ≤ length sheet / 8

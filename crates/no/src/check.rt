@@ -1,151 +1,109 @@
-// The no check: numbers 1 to 5, 9, 11, 12 and 13 of document 01's table, else ACCEPTED.
-ghost use Rattle.std.specs.Prelude.{◌≡◌, not, ◌&&◌, ◌*◌, ◌≤◌, ◌<◌, ◌/◌, length};
-ghost use Rattle.pack.specs.World.{line_at};
-ghost use Rattle.pack.specs.Computed.{obeys, Admitted};
-ghost use Rattle.pack.specs.Record.{lines_of, record_count};
+// The no check: numbers 1 to 5, 9, 11, 12 and 13 of document 01's table, else the sheet is accepted.
+ghost use Rattle.std.specs.Prelude.{◌≡◌, ◌≤◌, ◌<◌, false, true, length, MatchResult};
+ghost use Rattle.pack.specs.Record.{lines_of};
 ghost use Rattle.pack.specs.Question.{counted};
-ghost use Rattle.no.specs.NoSheet.{world_of, rows_of};
-ghost use Rattle.no.specs.Computed.{lowest_broken, check_world, check_rows, check_no};
-ghost use Rattle.no.specs.Answers.{no_told, GivesNo};
-ghost use Rattle.no.specs.Inner.{ThingsFit, LinesFit};
+ghost use Rattle.no.specs.declared.check.NoError.TheVariants.{Refused, Length, Broken};
+ghost use Rattle.no.specs.NoSheet.{world_of};
+ghost use Rattle.no.specs.Computed.{things_by, no_length_by, lowest_broken, check_no};
+ghost use Rattle.no.specs.Inner.{LinesFit};
+ghost use Rattle.no.specs.Answers.{no_told, no_error_told, GivesNo};
 
 use crate::row::lowest_forbidden;
-use crate::thing::{world_obeys, world_refutes};
-use marks::look::is_marked;
-use pack::check::{Checked, Refusal};
+use crate::world::World;
+use marks::look::places;
+use pack::check::Refusal;
 use pack::line::line_at;
-use pack::question::check_question;
+use pack::question::Question;
+use pack::taken::Taken;
+use pack::told::Told;
 
-// What the no check answers.
-#[derive(Clone, Copy)]
-pub enum NoAnswer {
+// Why a no sheet is not accepted, in the order of document 01's table.
+#[derive(Clone, Copy, Debug, PartialEq, Eq)]
+pub enum NoError {
     Refused(Refusal),
     Length,
     Row(u32),
     Broken(u32),
     NotShown,
-    Accepted,
 }
 
-// Does the record at a place count, and does the world break it?
-fn place_broken<'a>(
-    pack: &'a [u8],
-    marks: &'a [u64],
-    sheet: &'a [u8],
-    k: usize,
-    place: usize,
-) -> bool
-    requires { ThingsFit k sheet.now × LinesFit k sheet.now (lines_of pack.now) × (place < record_count pack.now) }
-    ensures { result ≡ (counted pack.now marks.now place && not (obeys (world_of k sheet.now) (line_at (lines_of pack.now) place))) }
-{
-    if is_marked(marks, place) {
-        return !world_obeys(sheet, k, line_at(pack, place));
+impl From<Refusal> for NoError {
+    ghost from_gives = { λ refusal e. e ≡ Refused refusal };
+
+    fn from(refusal: Refusal) -> NoError {
+        NoError::Refused(refusal)
     }
-    false
 }
 
-// The lowest place that counts and that the world breaks, or the record count.
-fn lowest_broken<'a>(pack: &'a [u8], marks: &'a [u64], sheet: &'a [u8], k: usize) -> usize
-    requires { ThingsFit k sheet.now × LinesFit k sheet.now (lines_of pack.now) }
-    ensures { result ≡ lowest_broken (world_of k sheet.now) (lines_of pack.now) (counted pack.now marks.now) }
-{
-    let count = pack.len() / 8;
-    let mut i = 0;
-    while i < count {
-        if place_broken(pack, marks, sheet, k, i) {
-            return i;
+impl Told for NoError {
+    ghost told = { no_error_told };
+
+    fn number(&self) -> u32 {
+        match self {
+            NoError::Refused(why) => why.number(),
+            NoError::Length => 9,
+            NoError::Row(_) => 11,
+            NoError::Broken(_) => 12,
+            NoError::NotShown => 13,
         }
-        i += 1;
     }
-    i
+
+    fn value(&self) -> u64 {
+        match self {
+            NoError::Refused(why) => why.value(),
+            NoError::Row(row) => *row as u64,
+            NoError::Broken(place) => *place as u64,
+            _ => 0,
+        }
+    }
 }
 
-// The world of a sheet whose rows fit: does it obey, and does it refute the goal?
-fn check_world<'a>(
-    pack: &'a [u8],
-    marks: &'a [u64],
-    sheet: &'a [u8],
-    k: usize,
-    a: u8,
-    b: u8,
-) -> NoAnswer
-    requires { ThingsFit k sheet.now × LinesFit k sheet.now (lines_of pack.now) × (length pack.now ≤ 8192) × (a < 64) × (b < 64) }
-    ensures { result ≡ check_world (world_of k sheet.now) (lines_of pack.now) (counted pack.now marks.now) a b }
-{
-    let broken = lowest_broken(pack, marks, sheet, k);
-    if broken < pack.len() / 8 {
-        return NoAnswer::Broken(broken as u32);
-    }
-    if world_refutes(sheet, k, a, b) {
-        return NoAnswer::Accepted;
-    }
-    NoAnswer::NotShown
-}
-
-// The rows of a sheet of right length, for a question that is taken.
-fn check_rows<'a>(
-    n: usize,
-    m: usize,
-    pack: &'a [u8],
-    marks: &'a [u64],
-    a: usize,
-    b: usize,
-    sheet: &'a [u8],
-    k: usize,
-) -> NoAnswer
-    requires { Admitted n m pack.now marks.now a b × (length sheet.now ≡ rows_of m k * 8) × (k ≤ 64) }
-    ensures { result ≡ check_rows n m k (lines_of pack.now) (counted pack.now marks.now) a b sheet.now }
-{
-    let rows = k * (1 + m);
-    let row = lowest_forbidden(sheet, n, m, k, rows);
-    if row < rows {
-        return NoAnswer::Row(row as u32);
-    }
-    check_world(pack, marks, sheet, k, a as u8, b as u8)
-}
-
-// The length and the rows, for a question that is taken.
-fn check_no_counted<'a>(
-    n: usize,
-    m: usize,
-    pack: &'a [u8],
-    marks: &'a [u64],
-    a: usize,
-    b: usize,
-    sheet: &'a [u8],
-) -> NoAnswer
-    requires { Admitted n m pack.now marks.now a b }
-    ensures { result ≡ check_no n m pack.now marks.now a b sheet.now }
+// The number of things that a sheet of m roles has by its length, 1 to 64.
+fn count_things(m: usize, sheet: &[u8]) -> Result<usize, NoError>
+    requires { m ≤ 8 }
+    ensures { MatchResult result (λ k. (k ≡ things_by m sheet.now) × (no_length_by m sheet.now ≡ true)) (λ e. (e ≡ Length) × (no_length_by m sheet.now ≡ false)) }
 {
     let thing = 8 * (1 + m);
-    if sheet.len() % thing != 0 {
-        return NoAnswer::Length;
+    let things = sheet.len() / thing;
+    if sheet.len() % thing != 0 || things < 1 || 64 < things {
+        return Err(NoError::Length);
     }
-    let k = sheet.len() / thing;
-    if k < 1 {
-        return NoAnswer::Length;
-    }
-    if 64 < k {
-        return NoAnswer::Length;
-    }
-    check_rows(n, m, pack, marks, a, b, sheet, k)
+    Ok(things)
 }
 
-// The no check, for any input.
-pub fn check_no<'a>(
-    n: usize,
-    m: usize,
-    pack: &'a [u8],
-    marks: &'a [u64],
-    a: usize,
-    b: usize,
-    sheet: &'a [u8],
-) -> NoAnswer
-    ensures { GivesNo n m pack.now marks.now a b sheet.now (no_told result).0 (no_told result).1 }
+// Does the world obey the line at each place that counts? If not, the lowest that it breaks.
+fn check_lines(q: &Taken, world: &World) -> Result<(), NoError>
+    requires { LinesFit world.now.things world.now.sheet.now (lines_of q.now.pack.now) }
+    ensures { let ls = lines_of q.now.pack.now in let place = lowest_broken (world_of world.now.things world.now.sheet.now) ls (counted q.now.pack.now q.now.marks.now) in MatchResult result (λ _. place ≡ length ls) (λ e. (e ≡ Broken place) × (place < length ls)) }
 {
-    let checked = check_question(n, m, pack, marks, a, b);
-    match checked {
-        Checked::Refused(why) => NoAnswer::Refused(why),
-        Checked::Count(_) => check_no_counted(n, m, pack, marks, a, b, sheet),
+    for place in places(q.marks) {
+        if !world.obeys(line_at(q.pack, place)) {
+            return Err(NoError::Broken(place as u32));
+        }
     }
+    Ok(())
+}
+
+// The no check, for a question that is taken.
+fn check_taken(q: &Taken, sheet: &[u8]) -> Result<(), NoError>
+    ensures { result ≡ check_no q.now.n q.now.m q.now.pack.now q.now.marks.now q.now.a q.now.b sheet.now }
+{
+    let things = count_things(q.m, sheet)?;
+    if let Some(row) = lowest_forbidden(sheet, q.n, things) {
+        return Err(NoError::Row(row as u32));
+    }
+    let world = World { things, sheet };
+    check_lines(q, &world)?;
+    if world.refutes(q.a as u8, q.b as u8) {
+        return Ok(());
+    }
+    Err(NoError::NotShown)
+}
+
+// The no check, for any question and any bytes.
+pub fn check_no(q: &Question, sheet: &[u8]) -> Result<(), NoError>
+    ensures { GivesNo q.now.n q.now.m q.now.pack.now q.now.marks.now q.now.a q.now.b sheet.now (no_told result).0 (no_told result).1 }
+{
+    let taken = q.take()?;
+    check_taken(&taken, sheet)
 }

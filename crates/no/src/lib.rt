@@ -4,3 +4,4 @@
 pub mod check;
 pub mod row;
 pub mod thing;
+pub mod world;

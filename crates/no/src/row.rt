@@ -1,13 +1,13 @@
 // The rows of a no sheet: one read, and the lowest with a forbidden bit.
 ghost use Rattle.std.specs.Prelude.{◌≡◌, ◌&&◌, ◌*◌, ◌<◌, ◌/◌, leb, length};
 ghost use Rattle.bits.specs.Bit.{has};
-ghost use Rattle.bits.specs.Sets.{some};
-ghost use Rattle.no.specs.NoSheet.{row_at, rows_of, forbidden};
-ghost use Rattle.no.specs.Computed.{lowest_forbidden};
+ghost use Rattle.bits.specs.Sets.{lowest, found_below, some};
+ghost use Rattle.no.specs.NoSheet.{row_at, forbidden};
 
 use pack::bytes::read_word;
 
 // Row i of the sheet.
+#[tactic(auto, using(pack::proofs::Parts::cut), unfolding(crate::specs::NoSheet::row_at))]
 pub fn row_at(sheet: &[u8], i: usize) -> u64
     requires { i < length sheet.now / 8 }
     ensures { result ≡ row_at sheet.now i }
@@ -21,7 +21,7 @@ pub fn row_at(sheet: &[u8], i: usize) -> u64
 fn past_limit(word: u64, limit: usize) -> bool
     ensures { result ≡ some 64 (λ j. leb limit j && has word j) }
 {
-    bits::next_bit(word, limit) < 64
+    bits::next_bit(word, limit).is_some()
 }
 
 // Does row i have a forbidden bit: at or above n in the first k rows, at or above k in the others?
@@ -29,23 +29,13 @@ fn row_forbidden(sheet: &[u8], i: usize, n: usize, k: usize) -> bool
     requires { i < length sheet.now / 8 }
     ensures { result ≡ forbidden n k sheet.now i }
 {
-    if i < k {
-        return past_limit(row_at(sheet, i), n);
-    }
-    past_limit(row_at(sheet, i), k)
+    let limit = if i < k { n } else { k };
+    past_limit(row_at(sheet, i), limit)
 }
 
-// The lowest row with a forbidden bit, or the number of rows.
-pub fn lowest_forbidden(sheet: &[u8], n: usize, m: usize, k: usize, rows: usize) -> usize
-    requires { (rows ≡ rows_of m k) × (length sheet.now ≡ rows * 8) }
-    ensures { result ≡ lowest_forbidden n m k sheet.now }
+// The lowest row with a forbidden bit, where there is one.
+pub fn lowest_forbidden(sheet: &[u8], n: usize, k: usize) -> Option<usize>
+    ensures { let rows = length sheet.now / 8 in result ≡ found_below rows (lowest (forbidden n k sheet.now) 0 rows) }
 {
-    let mut i = 0;
-    while i < rows {
-        if row_forbidden(sheet, i, n, k) {
-            return i;
-        }
-        i += 1;
-    }
-    i
+    (0..sheet.len() / 8).find(|i| row_forbidden(sheet, *i, n, k))
 }

@@ -1,17 +1,14 @@
--- `check_no`: the question's refusal as it is, or what the sheet gives (`check_no_counted`).
-use mathlib.Core.Path.{sym, ◌∙◌}
-use Rattle.pack.proofs.Promises.{question_is}
+-- `check_no`: the question's refusal as it is (`no_refused`), or what the sheet gives (`no_told_lem`).
+use Rattle.std.proofs.lemmas.Result.{err_from_is_err_and}
 use Rattle.no.proofs.Promises.{no_refused, no_told_lem}
 use Rattle.no.proofs.check.check_no.Goals as goal
 
-pub check_no_counted-requires : goal.check_no_counted-requires
-check_no_counted-requires c = (_, sym (question_is _ _ _ _ _ _ c.check_question-checked.ensures) ∙ c.in-Count.is)
+pub returns-in_err-taken : goal.returns-in_err-taken
+returns-in_err-taken c =
+    let p = err_from_is_err_and c.from_residual.result c.from_residual.ensures.1 in
+    rw (p.1, p.2) (no_refused _ _ _ _ _ _ c.args.sheet.now c.in_err-taken.ensures.refused)
 
-pub returns-in-Refused : goal.returns-in-Refused
-returns-in-Refused c =
-    let a = c.args in
-    no_refused a.n a.m a.pack.now a.marks.now a.a a.b a.sheet.now {why = c.in-Refused.why}
-    (sym (question_is _ _ _ _ _ _ c.check_question-checked.ensures) ∙ c.in-Refused.is)
-
-pub returns-in-Count : goal.returns-in-Count
-returns-in-Count c = no_told_lem _ _ _ _ _ _ _ c.check_no_counted.ensures
+pub returns : goal.returns
+returns c =
+    let s = c.in_ok-taken.ensures.same in
+    no_told_lem _ _ _ _ _ _ _ (rw (s.0, s.1, s.2, s.3, s.4, s.5) at c.check_taken.ensures)

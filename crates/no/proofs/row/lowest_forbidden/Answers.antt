@@ -1,25 +1,15 @@
--- `lowest_forbidden`: what is left of the search from row i on gives the answer of the whole (`Left`); it ends at a
--- forbidden bit or past the rows.
-use mathlib.Core.Path.{sym, ◌∙◌, ap}
-use native.Mathlib.Omega.{arith}
-use Rattle.bits.specs.Sets.{lowest}
-use Rattle.bits.proofs.SetLaws.{left_start, left_on, left_here, left_end}
-use Rattle.no.specs.Computed.{lowest_forbidden}
+-- `lowest_forbidden`: `find` over the rows gives the first with a forbidden bit (`first_from_Range`), and that is the lowest.
+use mathlib.Core.Path.{◌≡◌}
+use mathlib.Core.Bool.{true, false}
+use borrow.Author.Tests.{tests}
+use Rattle.std.proofs.Common.{rules}
+use Rattle.std.proofs.lemmas.Iterator.{first_from_Range}
+use Rattle.no.specs.NoSheet.{forbidden}
+use Rattle.no.proofs.ThingLaws.{found_first}
 use Rattle.no.proofs.row.lowest_forbidden.Goals as goal
 
-pub loop-i-init : goal.loop-i-init
-unfolding lowest_forbidden
-loop-i-init c = (omega arith, left_start _ _ (ap (lowest _ 0) c.requires.0))
-
-pub returns-then-row_forbidden : goal.returns-then-row_forbidden
-returns-then-row_forbidden c =
-    let l = c.loop-i in
-    left_here _ c.loop-i-test.true (sym c.row_forbidden.ensures ∙ c.if-row_forbidden.true) l.invariant.1
-
-pub loop-i-preserved : goal.loop-i-preserved
-loop-i-preserved c =
-    let l = c.loop-i in
-    (omega arith, left_on _ c.loop-i-test.true (sym c.row_forbidden.ensures ∙ c.if-row_forbidden.false) l.invariant.1)
-
 pub returns : goal.returns
-returns c = left_end _ c.loop-i-test.false c.loop-i.invariant.1
+returns c =
+    let a = c.args in
+    found_first _ _ c.find.result
+    (first_from_Range _ _ _ c.find.result (λ i. forbidden a.n a.k a.sheet.now i ≡ true) (λ i. forbidden a.n a.k a.sheet.now i ≡ false) c.find.ensures.ran (λ x q h. search (rules, tests)) (λ x q h. search (rules, tests)))

@@ -2,11 +2,12 @@
 use borrow.Author.Tests.{lt-ltb, le-ltb}
 use Rattle.no.specs.NoSheet.{forbidden}
 use Rattle.no.proofs.row.row_forbidden.Goals as goal
-
-pub returns-then-i-k : goal.returns-then-i-k
-unfolding forbidden
-returns-then-i-k c = rw (lt-ltb _ _ c.if-i-k.true) (rw c.row_at.ensures at c.past_limit.ensures)
+use Rattle.no.proofs.row.row_forbidden.Goals.{then-i-k, else-i-k}
 
 pub returns : goal.returns
 unfolding forbidden
-returns c = rw (le-ltb _ _ c.if-i-k.false) (rw c.row_at-2.ensures at c.past_limit-2.ensures)
+returns c =
+    elim c.if-i-k.branch [
+      | then-i-k w ↦ rw (lt-ltb _ _ w.if-i-k.true) (rw (c.row_at.ensures, w.limit-is) at c.past_limit.ensures)
+      | else-i-k w ↦ rw (le-ltb _ _ w.if-i-k.false) (rw (c.row_at.ensures, w.limit-is) at c.past_limit.ensures)
+    ]
