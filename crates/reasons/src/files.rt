@@ -9,7 +9,7 @@ use marks::change::cut_marks;
 
 // The places of records, marked: of those that wait for a concept, of those that wait for a role, and of those reached.
 #[derive(Drop)]
-pub struct Files {
+pub(crate) struct Files {
     pub concepts: [[u64; 16]; 64],
     pub roles: [[u64; 16]; 64],
     pub reached: [u64; 16],
@@ -27,7 +27,7 @@ fn mark(marks: &mut [u64; 16], i: usize)
 
 impl Files {
     // Nothing filed.
-    pub fn clear() -> Files
+    pub(crate) fn clear() -> Files
         ensures { (x : Option Name) (i : ℕ) → filed result x i ≡ false }
     {
         Files {
@@ -38,7 +38,7 @@ impl Files {
     }
 
     // The places filed under a name.
-    pub fn under(&self, name: Name) -> [u64; 16]
+    pub(crate) fn under(&self, name: Name) -> [u64; 16]
         requires { IsShort name }
         ensures { (i : ℕ) → marked result i ≡ filed self.now (Some name) i }
     {
@@ -49,7 +49,7 @@ impl Files {
     }
 
     // The places filed as reached.
-    pub fn reached_marks(&self) -> [u64; 16]
+    pub(crate) fn reached_marks(&self) -> [u64; 16]
         ensures words { result ≡ marks_of (marked result) }
         ensures places { (i : ℕ) → marked result i ≡ filed self.now None i }
     {
@@ -57,7 +57,7 @@ impl Files {
     }
 
     // Place i filed under a name, or as reached.
-    pub fn file(&mut self, name: Option<Name>, i: usize)
+    pub(crate) fn file(&mut self, name: Option<Name>, i: usize)
         requires { ForSome name IsShort × (i < 1024) }
         ensures { IsFiled self.old self.new name i }
     {

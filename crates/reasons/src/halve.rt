@@ -15,7 +15,7 @@ use pack::taken::Taken;
 use std::ops::Range;
 
 // A question that is taken, with some marks less.
-pub fn with_marks<'a, 'b: 'a>(q: &Taken<'b>, marks: &'a [u64; 16]) -> Taken<'a>
+pub(crate) fn with_marks<'a, 'b: 'a>(q: &Taken<'b>, marks: &'a [u64; 16]) -> Taken<'a>
     requires { (length marks.now ≡ 16) × ((i : ℕ) → marked marks.now i ≡ true → marked q.now.marks.now i ≡ true) }
     ensures sizes { (result.n ≡ q.now.n) × (result.m ≡ q.now.m) }
     ensures words { (result.pack.now ≡ q.now.pack.now) × (result.marks.now ≡ marks.now) }

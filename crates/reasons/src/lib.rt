@@ -1,10 +1,10 @@
 // Why a goal follows: the module and the printed set.
 #![tactic(auto)]
 
-pub mod files;
+mod files;
 pub mod halve;
 pub mod module;
 pub mod names;
-pub mod out;
+mod out;
 pub mod reach;
 pub mod set;

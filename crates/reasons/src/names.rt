@@ -22,7 +22,7 @@ pub struct Names {
 
 impl Names {
     // No names.
-    pub fn none() -> Names
+    pub(crate) fn none() -> Names
         ensures { result ≡ no_names }
     {
         Names {
@@ -32,7 +32,7 @@ impl Names {
     }
 
     // Is the name there?
-    pub fn has(self, name: Name) -> bool
+    pub(crate) fn has(self, name: Name) -> bool
         requires { IsShort name }
         ensures { result ≡ name_in self name }
     {
@@ -43,7 +43,7 @@ impl Names {
     }
 
     // These names and one more.
-    pub fn with(self, name: Name) -> Names
+    pub(crate) fn with(self, name: Name) -> Names
         requires { IsShort name }
         ensures { result ≡ with_name self name }
     {
@@ -71,7 +71,7 @@ impl Names {
     }
 
     // The first name of the line's left side that is not there.
-    pub fn waits_for(self, l: Line) -> Option<Name>
+    pub(crate) fn waits_for(self, l: Line) -> Option<Name>
         requires { ValidLine 64 8 l }
         ensures { result ≡ waits_for (name_in self) (left_names l) }
     {
@@ -92,7 +92,7 @@ impl Names {
     }
 
     // These names and those of the line's right side.
-    pub fn with_right(self, l: Line) -> Names
+    pub(crate) fn with_right(self, l: Line) -> Names
         requires { ValidLine 64 8 l }
         ensures { result ≡ with_names self (right_names l) }
     {
@@ -109,7 +109,7 @@ impl Names {
     }
 
     // A name that is there and not yet done: the lowest of the concepts, then of the roles.
-    pub fn next_after(self, done: Names) -> Option<Name>
+    pub(crate) fn next_after(self, done: Names) -> Option<Name>
         ensures { Fresh self done result }
     {
         if let Some(x) = bits::next_bit(bits::lacking(self.concepts, done.concepts), 0) {

@@ -10,7 +10,7 @@ use pack::question::Question;
 use pack::taken::Taken;
 
 // The question, taken, where so many words are lent for the out marks: unless they are 16, MARKS in its place.
-pub fn take_reason<'a>(q: &Question<'a>, words: usize) -> Result<Taken<'a>, Refusal>
+pub(crate) fn take_reason<'a>(q: &Question<'a>, words: usize) -> Result<Taken<'a>, Refusal>
     ensures same { IfOk result (λ t. (t.n ≡ q.now.n) × (t.m ≡ q.now.m)
         × (t.pack.now ≡ q.now.pack.now) × (t.marks.now ≡ q.now.marks.now)
         × (t.a ≡ q.now.a) × (t.b ≡ q.now.b) × (words ≡ 16)) }
@@ -27,7 +27,7 @@ pub fn take_reason<'a>(q: &Question<'a>, words: usize) -> Result<Taken<'a>, Refu
 }
 
 // The 16 words into the out marks, and how many records they mark.
-pub fn give(words: &[u64; 16], out: &mut [u64]) -> u32
+pub(crate) fn give(words: &[u64; 16], out: &mut [u64]) -> u32
     requires { (length words.now ≡ 16) × (length out.old ≡ 16) }
     ensures { (result ≡ mark_count words.now) × (out.new ≡ words.now) }
 {

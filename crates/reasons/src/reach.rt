@@ -13,7 +13,7 @@ use pack::line::{Line, line_at};
 
 // What is reached so far: the names, and the records by what they wait for.
 #[derive(Drop)]
-pub struct Reached {
+pub(crate) struct Reached {
     pub names: Names,
     pub files: Files,
 }
