@@ -1,58 +1,60 @@
--- What C may conclude from the number that a check's call returns: 0 is ACCEPTED, and no two answers have one number.
+-- What C may conclude from the number that a check's call returns: 0 is an accepted sheet, and no two answers have one number.
 use mathlib.Core.Path.{◌≡◌}
 use mathlib.Core.List.{List}
 use Prim.Native.Nat.{ℕ, ◌/◌, ◌%◌, ◌<◌}
 use native.Mathlib.Omega.{arith}
+use Rattle.std.specs.Prelude.{Result, Ok, Err}
+use Rattle.pack.specs.declared.check.Refusal.{Refusal}
 use Rattle.pack.specs.declared.check.Refusal.TheVariants.{Sizes, Pack, Record, Marks, Goal}
 use Rattle.pack.specs.Bytes.{marks_in}
+use Rattle.pack.specs.Computed.{refusal_number}
 use Rattle.pack.specs.Question.{counted}
 use Rattle.pack.specs.Record.{lines_of}
 use Rattle.pack.specs.World.{Follows}
-use Rattle.yes.specs.declared.check.YesAnswer.{YesAnswer}
-use Rattle.yes.specs.declared.check.YesAnswer.TheVariants as yes
+use Rattle.yes.specs.declared.check.YesError.{YesError}
+use Rattle.yes.specs.declared.check.YesError.TheVariants as yes
 use Rattle.yes.specs.Answers.{GivesYes}
 use Rattle.yes.specs.Computed.{yes_number, yes_place}
 use Rattle.yes.proofs.Promises.{yes_told_by, yes_right}
-use Rattle.no.specs.declared.check.NoAnswer.{NoAnswer}
-use Rattle.no.specs.declared.check.NoAnswer.TheVariants as no
+use Rattle.no.specs.declared.check.NoError.{NoError}
+use Rattle.no.specs.declared.check.NoError.TheVariants as no
 use Rattle.no.specs.Answers.{GivesNo}
 use Rattle.no.specs.Computed.{no_number, no_place}
 use Rattle.no.proofs.Promises.{no_told_by, no_right}
 use Rattle.sheets.specs.Answers.{code}
 
 -- the numbers of the checks are below 16
-pub yes_small : (x : YesAnswer) → yes_number x < 16
-yes_small (yes.Refused Sizes) = omega arith
-yes_small (yes.Refused Pack) = omega arith
-yes_small (yes.Refused (Record i)) = omega arith
-yes_small (yes.Refused Marks) = omega arith
-yes_small (yes.Refused Goal) = omega arith
-yes_small yes.Length = omega arith
-yes_small (yes.Step i) = omega arith
-yes_small yes.NotShown = omega arith
-yes_small yes.Accepted = omega arith
+refusal_small : (why : Refusal) → refusal_number why < 16
+refusal_small Sizes = omega arith
+refusal_small Pack = omega arith
+refusal_small (Record i) = omega arith
+refusal_small Marks = omega arith
+refusal_small Goal = omega arith
 
-pub no_small : (x : NoAnswer) → no_number x < 16
-no_small (no.Refused Sizes) = omega arith
-no_small (no.Refused Pack) = omega arith
-no_small (no.Refused (Record i)) = omega arith
-no_small (no.Refused Marks) = omega arith
-no_small (no.Refused Goal) = omega arith
-no_small no.Length = omega arith
-no_small (no.Row i) = omega arith
-no_small (no.Broken i) = omega arith
-no_small no.NotShown = omega arith
-no_small no.Accepted = omega arith
+pub yes_small : (x : Result (Unit {0}) YesError) → yes_number x < 16
+yes_small (Err (yes.Refused why)) = refusal_small why
+yes_small (Err yes.Length) = omega arith
+yes_small (Err (yes.Step i)) = omega arith
+yes_small (Err yes.NotShown) = omega arith
+yes_small (Ok tt) = omega arith
+
+pub no_small : (x : Result (Unit {0}) NoError) → no_number x < 16
+no_small (Err (no.Refused why)) = refusal_small why
+no_small (Err no.Length) = omega arith
+no_small (Err (no.Row i)) = omega arith
+no_small (Err (no.Broken i)) = omega arith
+no_small (Err no.NotShown) = omega arith
+no_small (Ok tt) = omega arith
 
 -- SO THE NUMBER AND THE PLACE ARE READ OFF THE CODE
 pub read_off : {number place r : ℕ} → number < 16 → r ≡ code number place → (r % 16 ≡ number) × (r / 16 ≡ place)
 read_off h e = (omega arith, omega arith)
 
 -- NO TWO ANSWERS OF THE YES CHECK, AND NONE OF THE NO CHECK, HAVE ONE NUMBER
-pub yes_told_apart : (x y : YesAnswer) → code (yes_number x) (yes_place x) ≡ code (yes_number y) (yes_place y) → x ≡ y
+pub yes_told_apart : (x y : Result (Unit {0}) YesError) → code (yes_number x) (yes_place x) ≡ code (yes_number y) (yes_place y) → x ≡ y
 yes_told_apart x y e = yes_told_by x y (omega (arith, yes_small x, yes_small y)) (omega (arith, yes_small x, yes_small y))
 
-pub no_told_apart : (x y : NoAnswer) → code (no_number x) (no_place x) ≡ code (no_number y) (no_place y) → x ≡ y
+pub no_told_apart : (x y : Result (Unit {0}) NoError) → code (no_number x) (no_place x) ≡ code (no_number y) (no_place y) → x ≡ y
 no_told_apart x y e = no_told_by x y (omega (arith, no_small x, no_small y)) (omega (arith, no_small x, no_small y))
 
 module _ (n m : ℕ) (s marks : List ℕ) (a b : ℕ) (sheet : List ℕ) where

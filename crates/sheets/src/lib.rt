@@ -2,4 +2,3 @@
 #![tactic(auto)]
 
 pub mod calls;
-pub mod code;

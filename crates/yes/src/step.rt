@@ -30,7 +30,7 @@ fn zeros_zero(part: &[u8]) -> bool
     requires { 8 ≤ length part.now }
     ensures { result ≡ zeros_in part.now }
 {
-    part[5] == 0 && part[6] == 0 && part[7] == 0
+    part[5..8] == [0, 0, 0]
 }
 
 // Is a used number below n, and an unused one zero?
