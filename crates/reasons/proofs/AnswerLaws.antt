@@ -11,7 +11,7 @@ use Rattle.bits.specs.Bit.{row}
 use Rattle.bits.specs.Lists.{listed}
 use Rattle.bits.proofs.Truth.{never}
 use Rattle.marks.specs.Marks.{marked, marks_of}
-use Rattle.marks.proofs.WordLaws.{marks_alike, marks_again}
+use Rattle.marks.proofs.WordLaws.{marks_length, marks_alike, marks_again}
 use Rattle.pack.specs.Question.{counted}
 use Rattle.pack.specs.Computed.{check_question}
 use Rattle.pack.specs.Record.{lines_of}
@@ -25,6 +25,7 @@ use Rattle.reasons.proofs.PickLaws.{without_true}
 use Rattle.reasons.proofs.PrintedLaws.{printed_is, printed_one}
 use Rattle.reasons.proofs.InsideLaws.{inside_true, module_follows, inside_printed}
 use Rattle.reasons.proofs.ModuleLaws.{none_past, marks_module, marks_past}
+use Rattle.reasons.proofs.AskLaws.{fewer_taken}
 use Rattle.reasons.proofs.FileLaws.{clear_marked}
 
 -- deletion only takes away
@@ -86,6 +87,9 @@ module _ (n m : ℕ) (s ws : List ℕ) (a b : ℕ) {c : ℕ} (t : check_question
         go : Dec (i < length (lines_of s)) → counted s ws i ≡ true
         go (yes l) = (inside_true (lines_of s) (counted s ws) inside_module.names i (sym (inside_module.places i l) ∙ h)).0
         go (no l) = never h (ap (λ (v : List ℕ). marked v i) e ∙ marks_past n m s ws a b t i (omega arith))
+
+    pub inside_taken : check_question n m s inside a b ≡ Ok c
+    inside_taken = fewer_taken n m s ws a b t inside (ap length e ∙ marks_length (module_of (lines_of s) (counted s ws) n m a)) inside_fewer
 
     pub inside_follows : Follows (lines_of s) (marked inside) a b
     inside_follows =

@@ -9,8 +9,8 @@ use native.Mathlib.Omega.{arith}
 use lib.ListN.{length}
 use Rattle.bits.proofs.FoundLaws.{Found, Missing}
 use Rattle.marks.specs.Marks.{marked, marks_of, cut_out}
-use Rattle.marks.proofs.WordLaws.{marks_again}
-use Rattle.marks.proofs.CutLaws.{cut_marked, copy_marked}
+use Rattle.marks.proofs.WordLaws.{marks_length, marks_again}
+use Rattle.marks.proofs.CutLaws.{cut_marked, cut_fewer, copy_marked}
 use Rattle.pack.specs.Question.{counted}
 use Rattle.pack.specs.Computed.{check_question}
 use Rattle.pack.specs.Record.{lines_of}
@@ -39,6 +39,9 @@ module _ (n m : ℕ) (s ws : List ℕ) (a b : ℕ) {c : ℕ} (t : check_question
   module _ (i k : ℕ) (ws' : List ℕ) (e : ws' ≡ marks_of (cut_out (marked ws) i k)) where
     pub cut_same : marked ws' ≡ cut_out (marked ws) i k
     cut_same = ap marked e ∙ cut_marked ws i k taken_sixteen
+
+    pub cut_taken : check_question n m s ws' a b ≡ Ok c
+    cut_taken = fewer_taken ws' (ap length e ∙ marks_length (cut_out (marked ws) i k)) (λ j h. cut_fewer (marked ws) i k j (ap (λ (p : ℕ → Bool). p j) (sym cut_same) ∙ h))
 
 -- WHAT THE ENGINE ANSWERS of a question that is taken is whether the goal follows
 pub held_follows : (n m : ℕ) (s ws : List ℕ) (a b : ℕ) {c : ℕ} (t : check_question n m s ws a b ≡ Ok c) {r : Bool} → r ≡ goal_held n m s ws a b → IsTrue r ↔ Follows (lines_of s) (counted s ws) a b
