@@ -44,7 +44,8 @@ fn number_fits(used: bool, y: u8, n: usize) -> bool
 fn numbers_fit(rule: Rule, s: Step, n: usize) -> bool
     ensures { result ≡ numbers_fit rule n s }
 {
-    ((s.x as usize) < n) & number_fits(1 < rule.uses, s.y, n) & number_fits(2 < rule.uses, s.z, n)
+    let low = (s.x as usize) < n;
+    low & (number_fits(1 < rule.uses, s.y, n) & number_fits(2 < rule.uses, s.z, n))
 }
 
 // Is the place that of a record that counts?
