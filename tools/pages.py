@@ -303,7 +303,8 @@ class Block:
         body = next(k for k in range(start, end + 1) if lines[k].endswith('{') or lines[k].endswith('{}'))
         text = ' '.join(' '.join(lines[start:body + 1]).split()).rstrip('{} ').split(' where ')[0]
         self.is_trait, rest = head[2] == 'trait', text.split(head[2], 1)[1].strip()
-        self.public, self.generics, self.trait = bool(head[0].strip().startswith('pub ')), ['Self'] if head[2] == 'trait' else [], None
+        self.public, self.trait = head[0].strip().startswith('pub '), None
+        self.generics = ['Self'] if self.is_trait else []
         if not self.is_trait and rest.startswith('<'):
             inside, rest = bracketed(rest)
             self.generics += parameter_names(inside)
@@ -314,8 +315,8 @@ class Block:
             trait, is_of, kind = rest.rpartition(' for ')
             self.trait, self.type = (trait.strip() if is_of else None), kind.strip()
         self.owner = base(self.type)
-        inner = range(body + 1, end)
-        self.ghosts = [found[1] for k in inner for found in [re.match(rf' {{{self.indent + 4}}}(?:pub )?ghost (\w+)', lines[k])] if found and found[1] != 'use']
+        inside = '\n'.join(lines[body + 1:end])
+        self.ghosts = [name for name in re.findall(rf'^ {{{self.indent + 4}}}(?:pub )?ghost (\w+)', inside, re.M) if name != 'use']
 
 
 def parameter_names(text):

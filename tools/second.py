@@ -117,9 +117,10 @@ def place(function, every, name, steps, apart):
     page, path, taken = function.page, [name], 0
     for step in steps:
         points, inside = reference(kind), fields(kind, page, every)
-        if step in MOMENTS and not when and step in ('entry', 'exit') and not points:
+        lent = points and points[0] and not when and not path[1:]
+        if step in ('entry', 'exit') and not points and not when:
             when = MOMENTS[step]
-        elif step in MOMENTS and points and (step == 'now' and (when or not points[0]) or step in ('old', 'new') and points[0] and not when and not path[1:]):
+        elif points and (step == 'now' and (when or not points[0]) or step in ('old', 'new') and lent):
             when, kind = when or MOMENTS[step], points[1]
             path.append('*')
         elif inside and step in inside and (apart or when and name != 'result'):
@@ -277,9 +278,10 @@ def concludes(function, theorem, wanted, names, every):
     pairs = {frozenset((names.get((word, 1)), names.get((word, 2)))): word for word in wanted}
     if not wanted or len(pairs) < len(wanted) or any(len(pair) < 2 for pair in pairs) or pairs.keys() != equated.keys():
         return False
-    for pair, word in pairs.items():
-        parts = [place(function, every, 'result', steps, True) for steps in equated[pair] if word == RESULT]
-        if equated[pair] != [[]] and (word != RESULT or any(rest for _, rest in parts) or left_out(['result'], function.result, function.page, every, {part for part, _ in parts})):
+    for pair in (pair for pair in pairs if equated[pair] != [[]]):
+        parts = [place(function, every, 'result', steps, True) for steps in equated[pair]]
+        left = left_out(['result'], function.result or '', function.page, every, {part for part, _ in parts})
+        if pairs[pair] != RESULT or left or any(rest for _, rest in parts):
             return False
     return True
 

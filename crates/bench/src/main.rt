@@ -1,4 +1,4 @@
-// The bench program: standard input, then the text that answers it onto standard output.
+// The bench program: standard input into a buffer, the text that answers it onto standard output.
 #![tactic(auto)]
 
 use lines::answer;
@@ -6,10 +6,13 @@ use std::io;
 use std::io::{Read, Write};
 
 // One byte more than the longest input that is answered is enough to see that there is more.
+const MOST: usize = 8201;
+
 fn main(rt: HostRuntime) -> io::Result<()> {
-    let mut input = Vec::new(rt.alloc());
-    rt.stdin().take(8201).read_to_end(&mut input)?;
+    let mut input = [0u8; MOST];
     let mut out = [0u8; 8192];
-    let end = answer(input.as_slice(), &mut out);
+    let copied = io::copy(&mut rt.stdin().take(MOST as u64), &mut &mut input[..])?;
+    let length = MOST.min(copied as usize);
+    let end = answer(&input[..length], &mut out);
     rt.stdout().write_all(&out[..end])
 }

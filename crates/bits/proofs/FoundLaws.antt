@@ -63,14 +63,11 @@ module _ {p : ℕ → Bool} {i c : ℕ} where
       sym (ap (found_below c) (sym e) ∙ at_found t)
 
   pub gives_none : Missing p i c → None ≡ found_below c (lowest p i (c - i))
-  gives_none m = sym (end_found (omega (arith, lowest_past m)))
+  gives_none m = sym (end_found (go (dec_lt (lowest p i (c - i)) c)))
     where
-      lowest_past : Missing p i c → c ≤ lowest p i (c - i)
-      lowest_past m = go (dec_lt (lowest p i (c - i)) c)
-        where
-          go : Dec (lowest p i (c - i) < c) → c ≤ lowest p i (c - i)
-          go (yes l) = let f = lowest_is p i (c - i) in let b = f.from in never (f.found (omega arith)) (m.none (lowest p i (c - i)) b l)
-          go (no l) = omega arith
+      go : Dec (lowest p i (c - i) < c) → c ≤ lowest p i (c - i)
+      go (yes l) = let f = lowest_is p i (c - i) in let b = f.from in never (f.found (omega arith)) (m.none (lowest p i (c - i)) b l)
+      go (no l) = omega arith
 
 -- that something is found, or nothing, as a test
 pub some_below : (c i : ℕ) {r : Option ℕ} → r ≡ found_below c i → is_some r ≡ ltb i c

@@ -1,18 +1,11 @@
 -- Laws of a walk over the numbers of a set below c, the lowest first.
-use Rattle.std.proofs.Common.{◌≡◌, Bool, true, false, ℕ, zero, suc, ◌+◌, ◌-◌, ◌≤◌, ◌<◌, List, [], ◌∷◌, length, filter, cond, Option, Some, None, refl, sym, ap, subst, ◌∙◌, arith}
+use Rattle.std.proofs.Common.{◌≡◌, Bool, true, false, ℕ, zero, suc, ◌+◌, ◌-◌, ◌≤◌, ◌<◌, [], ◌∷◌, length, filter, cond, Option, Some, None, refl, sym, ap, ◌∙◌, arith}
 use native.Mathlib.Decide.{ℕ_discrete}
-use Rattle.std.specs.List.{range_with_len, AllWithin, HoldsAt, FoldsTo}
-use Rattle.std.specs.Iterator.Runs.{YieldsInOrder}
-use Rattle.std.proofs.iter.runs.Sources.{from_front, as_is}
-use Rattle.std.proofs.lemmas.Iterator.{YieldsList, cases_from_all}
-use denote.Param.Members.{Mut, Called}
-use Rattle.std.specs.Bool.{MatchBool}
-use Rattle.std.specs.Option.{MatchOption}
-use Rattle.std.specs.Iterator.{YieldsThen}
+use Rattle.std.specs.List.{range_with_len}
+use Rattle.std.proofs.lemmas.Iterator.{YieldsList}
 use Rattle.std.proofs.lemmas.Iterator.Consumers.{YieldsList-from_shown}
 use Rattle.bits.specs.Sets.{lowest}
 use Rattle.bits.specs.Walk.{WalkStep, walk_left}
-use Rattle.bits.proofs.Truth.{never}
 use Rattle.bits.proofs.FoundLaws.{Found, Missing, found, missing, found_at, found_end}
 
 module _ (p : ℕ → Bool) where
@@ -64,52 +57,5 @@ module _ {S K : Type 0} (c : ℕ) (set : K → ℕ → Bool) (holds : S → K) (
       let l = f.there in
       rw (h.keeps, h.goes_on) (found_list (set (holds s)) (from s) (c - from s) j (c - (j + 1)) (omega arith) b f.here f.before)
 
-  pub walk_runs : YieldsInOrder (WalkStep c set holds from) (walk_left c set holds from)
-  walk_runs p s = as_is p (walk_left c set holds from p.from) (from_front (WalkStep c set holds from) (λ x. x) (walk_left c set holds from) walk_none walk_some p s)
-
   pub walk_list : (s : S) → YieldsList (WalkStep c set holds from) (λ x. x) s (walk_left c set holds from s)
   walk_list = YieldsList-from_shown (WalkStep c set holds from) (λ x. x) (walk_left c set holds from) walk_none walk_some
-
--- WHAT `all` OVER A WALK SHOWS: every number of the set from there on passed, or some did not
-module _ (p : ℕ → Bool) (Q : ℕ → Type 0) where
-  every_left : (i n : ℕ) → AllWithin Q (filter p (range_with_len i n)) 0 (length (filter p (range_with_len i n))) → (j : ℕ) → i ≤ j → j < i + n → p j ≡ true → Q j
-  every_left i zero h j a b e = absurd (omega arith)
-  every_left i (suc n) h j a b e = go (p i) refl h (ℕ_discrete i j) (λ g l. every_left (i + 1) n g j l (omega arith) e)
-    where
-      rest : List ℕ
-      rest = filter p (range_with_len (i + 1) n)
-
-      go : (t : Bool) → p i ≡ t → AllWithin Q (cond t (i ∷ rest) rest) 0 (length (cond t (i ∷ rest) rest)) → Dec (i ≡ j) → (AllWithin Q rest 0 (length rest) → i + 1 ≤ j → Q j) → Q j
-      go true q h (yes d) more = subst Q d (h 0 0 (omega arith) (omega arith))
-      go true q h (no d) more = more (λ k x _ l. h (suc k) x (omega arith) (omega arith)) (omega arith)
-      go false q h (yes d) more = never e (ap p (sym d) ∙ q)
-      go false q h (no d) more = more h (omega arith)
-
-  some_left : (i n k : ℕ) → k < length (filter p (range_with_len i n)) → HoldsAt Q (filter p (range_with_len i n)) k → (j : ℕ) × (i ≤ j) × (j < i + n) × (p j ≡ true) × Q j
-  some_left i zero k l h = absurd (omega arith)
-  some_left i (suc n) k l h = go (p i) refl k l h (some_left (i + 1) n)
-    where
-      rest : List ℕ
-      rest = filter p (range_with_len (i + 1) n)
-
-      go : (t : Bool) → p i ≡ t → (k : ℕ) → k < length (cond t (i ∷ rest) rest) → HoldsAt Q (cond t (i ∷ rest) rest) k
-          → ((k : ℕ) → k < length rest → HoldsAt Q rest k → (j : ℕ) × (i + 1 ≤ j) × (j < i + 1 + n) × (p j ≡ true) × Q j)
-          → (j : ℕ) × (i ≤ j) × (j < i + suc n) × (p j ≡ true) × Q j
-      go true q zero l h more = (i, omega arith, omega arith, q, h 0)
-      go true q (suc k) l h more = let f = more k (omega arith) h in let a = f.1 in let b = f.2 in (f.0, omega arith, omega arith, f.3, f.4)
-      go false q k l h more = let f = more k l h in let a = f.1 in let b = f.2 in (f.0, omega arith, omega arith, f.3, f.4)
-
-either_way : (r : Bool) {A B C D : Type 0} → (A → C) → (B → D) → MatchBool r A B → MatchBool r C D
-either_way true f g h = f h
-either_way false f g h = g h
-
-module _ {S K : Type 0} {c : ℕ} {set : K → ℕ → Bool} {holds : S → K} {from : S → ℕ} where
-  pub all_of_walk : {F : Type 0} {g : Mut F (ℕ × Unit {0}) Bool} {s : S} (u : S) (f : F) (r : Bool) (q : ℕ → Bool)
-      → (xs : List ℕ) × (o : Option ℕ) × (j : F) × YieldsThen (WalkStep c set holds from) s xs o u × FoldsTo (λ a x b. Called g a (x, tt) true b) f xs j × MatchOption o (r ≡ true) (λ x. (r ≡ false) × ((h : F) × Called g j (x, tt) false h))
-      → ((x : ℕ) (t : Bool) (h : F) → Called g f (x, tt) t h → (h ≡ f) × (t ≡ q x))
-      → MatchBool r ((j : ℕ) → from s ≤ j → j < c → set (holds s) j ≡ true → q j ≡ true) ((j : ℕ) × (from s ≤ j) × (j < c) × (set (holds s) j ≡ true) × (q j ≡ false))
-  all_of_walk {s = s} u f r q ran calls =
-      either_way r
-      (λ h j a b e. every_left (set (holds s)) (λ x. q x ≡ true) (from s) (c - from s) h j a (omega arith) e)
-      (λ h. let e = some_left (set (holds s)) (λ x. q x ≡ false) (from s) (c - from s) h.0 h.1 h.2 in let a = e.1 in let b = e.2 in (e.0, a, omega arith, e.3, e.4))
-      (cases_from_all u f r (λ x. q x ≡ true) (λ x. q x ≡ false) ran (walk_list c set holds from s) (λ x h k. let e = calls x true h k in (e.0, sym e.1)) (λ x h k. sym (calls x false h k).1))

@@ -11,8 +11,8 @@ use lib.Seq.{take_at, drop_at}
 use borrow.Author.Tests.{le-leb}
 use Rattle.bits.proofs.Truth.{never, both_true}
 use Rattle.marks.specs.Marks.{mark_count}
-use Rattle.pack.specs.declared.check.Checked.{Checked}
-use Rattle.pack.specs.declared.check.Checked.TheVariants.{Count}
+use Rattle.std.specs.Prelude.{Result, Ok, Err}
+use Rattle.pack.specs.declared.check.Refusal.{Refusal}
 use Rattle.pack.specs.declared.line.Fact.{Fact}
 use Rattle.pack.specs.declared.line.Fact.TheVariants.{In}
 use Rattle.pack.specs.declared.line.Step.{Step}
@@ -23,7 +23,7 @@ use Rattle.pack.specs.Question.{counted}
 use Rattle.pack.specs.Record.{lines_of, record_count}
 use Rattle.pack.specs.Rules.{rule_at, usable, free}
 use Rattle.pack.proofs.Promises.{pack_given}
-use Rattle.yes.specs.declared.check.YesAnswer.TheVariants as yes
+use Rattle.yes.specs.declared.check.YesError.TheVariants as yes
 use Rattle.yes.specs.Answers.{GivesYes}
 use Rattle.yes.specs.Computed.{check_yes, yes_number, yes_place}
 use Rattle.yes.specs.YesSheet.{steps_of, known, premises_known, good_over, good_at, yes_length_fits}
@@ -36,17 +36,17 @@ use Rattle.sheets.specs.Answers.{code}
 use Rattle.passes.specs.Ours.{our_steps, our_rows}
 use Rattle.passes.specs.Passes.{el}
 use Rattle.passes.specs.Saturation.{holds}
-use Rattle.engine.specs.declared.verdict.VerdictAnswer.TheVariants as verdicts
+use Rattle.engine.specs.declared.answer.Verdict.TheVariants as verdicts
 use Rattle.engine.specs.Computed.{goal_held}
 use Rattle.engine.proofs.Promises.{verdict_told_lem}
 use Rattle.engine.proofs.VerdictLaws.{too_long_never, verdict_is}
 use Rattle.engine.proofs.VerdictRight.{held_right}
-use Rattle.writer.specs.declared.write.SheetAnswer.TheVariants as sheets
+use Rattle.writer.specs.declared.answer.Sheet.TheVariants as sheets
 use Rattle.writer.specs.Computed.{ask_sheet, written_sheet}
 use Rattle.writer.specs.Sheet.{yes_bytes, no_bytes, with_ours, GivesSheet}
 use Rattle.writer.proofs.SheetLaws.{yes_length, no_length}
 use Rattle.writer.proofs.Promises.{sheet_told_lem}
-use Rattle.reasons.specs.declared.set.SetAnswer.TheVariants as sets
+use Rattle.reasons.specs.declared.set.SetError.TheVariants as sets
 use Rattle.reasons.specs.Computed.{module_marks, set_marks}
 use Rattle.reasons.specs.Module.{GivesModule}
 use Rattle.reasons.specs.Set.{GivesSet}
@@ -57,10 +57,10 @@ use Rattle.cases.specs.Cases.{Follows, Not, Case, Ask, OnePass, CheckPack, Check
 -- of a question: its check, and that of the module's; whether the goal is held; our sheet and its length; the marks of the
 -- module, those of the set, and how many they are. Of a pass: its steps, and whether the goal is held. Of a check: numbers
 pub data Told : Type 0 where
-  asked : Checked → Checked → Bool → List ℕ → ℕ → List ℕ → ℕ → List ℕ → ℕ → Told
+  asked : Result ℕ Refusal → Result ℕ Refusal → Bool → List ℕ → ℕ → List ℕ → ℕ → List ℕ → ℕ → Told
   passed : List ℕ → Bool → Told
   checked : ℕ → ℕ → ℕ → Told
-  zeros : Checked → Bool → Bool → ℕ → Told
+  zeros : Result ℕ Refusal → Bool → Bool → ℕ → Told
 
 -- the step of 8 bytes of zero, and whether so many bytes are a length of a yes sheet
 abbrev pub zero_step : Step
@@ -93,24 +93,24 @@ worked (CheckZeros q bytes number) =
 -- AS THE CASE HAS IT
 unfoldable pub claimed : Case → Told
 claimed (Ask q (Follows steps bytes count low) in_module first) =
-    asked (Count (record_count q.pack)) (Count (record_count q.pack)) true bytes (8 * steps) (words first) in_module (words low) count
+    asked (Ok (record_count q.pack)) (Ok (record_count q.pack)) true bytes (8 * steps) (words first) in_module (words low) count
 claimed (Ask q (Not rows bytes) in_module first) =
-    asked (Count (record_count q.pack)) (Count (record_count q.pack)) false bytes (8 * rows) (words first) in_module [] 0
+    asked (Ok (record_count q.pack)) (Ok (record_count q.pack)) false bytes (8 * rows) (words first) in_module [] 0
 claimed (OnePass q bytes) = passed bytes false
 claimed (CheckPack n m pack number value) = checked number value 0
 claimed (CheckYes q sheet number place c) = checked number place c
 claimed (CheckNo q sheet number place c) = checked number place c
-claimed (CheckZeros q bytes number) = zeros (Count (record_count q.pack)) true true number
+claimed (CheckZeros q bytes number) = zeros (Ok (record_count q.pack)) true true number
 
 -- behind the first k bytes of k + 8 there are 8
 behind : (k : ℕ) → drop k (blank (k + 8)) ≡ blank 8
 behind k = ap (drop k) (sym (replicate-append-replicate k 8 0x5a)) ∙ drop_at (replicate k 0x5a) (blank 8) k (length-replicate k 0x5a)
 
 -- A QUESTION THAT IS TAKEN
-module _ (n m : ℕ) (s ws : List ℕ) (a b : ℕ) {c : ℕ} (taken : check_question n m s ws a b ≡ Count c) where
+module _ (n m : ℕ) (s ws : List ℕ) (a b : ℕ) {c : ℕ} (taken : check_question n m s ws a b ≡ Ok c) where
   -- the writer's answer and the lent sheet afterwards, where there is room for ours
   wrote_yes : goal_held n m s ws a b ≡ true → (sheet : List ℕ) → length (yes_bytes n m s ws a b) ≤ length sheet
-      → (sheets.Follows (length (our_steps (lines_of s) (counted s ws) n m a b)) ≡ ask_sheet n m s ws a b sheet) × (with_ours (yes_bytes n m s ws a b) sheet ≡ written_sheet n m s ws a b sheet)
+      → (Ok (sheets.Follows (length (our_steps (lines_of s) (counted s ws) n m a b))) ≡ ask_sheet n m s ws a b sheet) × (with_ours (yes_bytes n m s ws a b) sheet ≡ written_sheet n m s ws a b sheet)
   unfolding ask_sheet written_sheet
   wrote_yes h sheet l =
       let room = le-leb (length (yes_bytes n m s ws a b)) (length sheet) l in
@@ -118,7 +118,7 @@ module _ (n m : ℕ) (s ws : List ℕ) (a b : ℕ) {c : ℕ} (taken : check_ques
       (rw (taken, few, h, room), rw (taken, few, h, room))
 
   wrote_no : goal_held n m s ws a b ≡ false → (sheet : List ℕ) → length (no_bytes n m s ws) ≤ length sheet
-      → (sheets.Not (length (our_rows (lines_of s) (counted s ws) n m)) ≡ ask_sheet n m s ws a b sheet) × (with_ours (no_bytes n m s ws) sheet ≡ written_sheet n m s ws a b sheet)
+      → (Ok (sheets.Not (length (our_rows (lines_of s) (counted s ws) n m))) ≡ ask_sheet n m s ws a b sheet) × (with_ours (no_bytes n m s ws) sheet ≡ written_sheet n m s ws a b sheet)
   unfolding ask_sheet written_sheet
   wrote_no h sheet l =
       let room = le-leb (length (no_bytes n m s ws)) (length sheet) l in
@@ -135,7 +135,7 @@ module _ (n m : ℕ) (s ws : List ℕ) (a b : ℕ) {c : ℕ} (taken : check_ques
       let same : length (yes_bytes n m s ws a b) ≡ length bytes = ap length e in
       let w = wrote_yes h (blank (length bytes + 8)) (omega (arith, same, length-replicate {A = ℕ} (length bytes + 8) 0x5a)) in
       let k : steps ≡ length (our_steps (lines_of s) (counted s ws) n m a b) = omega (arith, same, l, yes_length n m s ws a b) in
-      sheet_told_lem n m s ws a b (blank (length bytes + 8)) {r = sheets.Follows steps} (ap sheets.Follows k ∙ w.0, ours_written (yes_bytes n m s ws a b) bytes e ∙ w.1)
+      sheet_told_lem n m s ws a b (blank (length bytes + 8)) {r = Ok (sheets.Follows steps)} (ap (λ (k : ℕ). Ok (sheets.Follows k)) k ∙ w.0, ours_written (yes_bytes n m s ws a b) bytes e ∙ w.1)
 
   pub not_sheet : goal_held n m s ws a b ≡ false → (rows : ℕ) (bytes : List ℕ) → no_bytes n m s ws ≡ bytes → length bytes ≡ 8 * rows
       → GivesSheet n m s ws a b (blank (length bytes + 8)) (bytes ++ blank 8) 0 (2 * rows)
@@ -143,21 +143,21 @@ module _ (n m : ℕ) (s ws : List ℕ) (a b : ℕ) {c : ℕ} (taken : check_ques
       let same : length (no_bytes n m s ws) ≡ length bytes = ap length e in
       let w = wrote_no h (blank (length bytes + 8)) (omega (arith, same, length-replicate {A = ℕ} (length bytes + 8) 0x5a)) in
       let k : rows ≡ length (our_rows (lines_of s) (counted s ws) n m) = omega (arith, same, l, no_length n m s ws) in
-      sheet_told_lem n m s ws a b (blank (length bytes + 8)) {r = sheets.Not rows} (ap sheets.Not k ∙ w.0, ours_written (no_bytes n m s ws) bytes e ∙ w.1)
+      sheet_told_lem n m s ws a b (blank (length bytes + 8)) {r = Ok (sheets.Not rows)} (ap (λ (k : ℕ). Ok (sheets.Not k)) k ∙ w.0, ours_written (no_bytes n m s ws) bytes e ∙ w.1)
 
   -- the set, counted; and none, the out marks being as they were
   pub its_set : goal_held n m s ws a b ≡ true → (count low : ℕ) → set_marks n m s ws a b ≡ words low → mark_count (words low) ≡ count → GivesSet n m s ws a b lent (words low) 0 count
   its_set h count low e k =
       subst (λ (v : ℕ). GivesSet n m s ws a b lent (words low) 0 v) (ap mark_count e ∙ k)
-      (set_taken n m s ws a b lent (reason_asked n m s ws a b 16 refl ∙ taken) (sets.Count (mark_count (set_marks n m s ws a b))) (inl ((held_right n m s ws a b taken).0 h, refl, sym e)))
+      (set_taken n m s ws a b lent (reason_asked n m s ws a b 16 refl ∙ taken) (Ok (mark_count (set_marks n m s ws a b))) (inl ((held_right n m s ws a b taken).0 h, refl, sym e)))
 
   pub no_set : goal_held n m s ws a b ≡ false → GivesSet n m s ws a b lent lent 7 0
   no_set h =
-      set_taken n m s ws a b lent (reason_asked n m s ws a b 16 refl ∙ taken) sets.NotFollows
+      set_taken n m s ws a b lent (reason_asked n m s ws a b 16 refl ∙ taken) (Err sets.NotFollows)
       (inr ((λ f. never ((held_right n m s ws a b taken).1 f) h), refl, refl))
 
 -- the module, counted
-its_module : (n m : ℕ) (s ws : List ℕ) (a : ℕ) {c : ℕ} → check_question n m s ws a a ≡ Count c → (count first : ℕ) → module_marks n m s ws a ≡ words first → mark_count (words first) ≡ count
+its_module : (n m : ℕ) (s ws : List ℕ) (a : ℕ) {c : ℕ} → check_question n m s ws a a ≡ Ok c → (count first : ℕ) → module_marks n m s ws a ≡ words first → mark_count (words first) ≡ count
     → GivesModule n m s ws a lent (words first) 0 count
 its_module n m s ws a taken count first e k =
     subst (λ (v : ℕ). GivesModule n m s ws a lent (words first) 0 v) (ap mark_count e ∙ k)
@@ -177,7 +177,7 @@ zero_part c i l =
 zeros_length : (c : ℕ) → yes_length_fits (zero_bytes c) ≡ length_of c
 zeros_length c = ap (λ (k : ℕ). eqb (k % 8) 0 && leb k 524288) (length-replicate {A = ℕ} c 0)
 
-module _ (n m : ℕ) (s ws : List ℕ) (a b : ℕ) {k : ℕ} (taken : check_question n m s ws a b ≡ Count k)
+module _ (n m : ℕ) (s ws : List ℕ) (a b : ℕ) {k : ℕ} (taken : check_question n m s ws a b ≡ Ok k)
     (good : good_over (lines_of s) (counted s ws) n (free n) zero_step ≡ true) (goal : free n (In a b) ≡ true) (c : ℕ) where
   -- what is free is known
   free_known : (ss : List Step) (f : Fact) → free n f ≡ true → known (lines_of s) n ss f ≡ true
@@ -201,16 +201,16 @@ module _ (n m : ℕ) (s ws : List ℕ) (a b : ℕ) {k : ℕ} (taken : check_ques
     where
       go : (t : Bool) → length_of c ≡ t → GivesYes n m s ws a b (zero_bytes c) (cond t 0 9) 0
       go true e =
-          yes_told_lem n m s ws a b (zero_bytes c) {r = yes.Accepted}
+          yes_told_lem n m s ws a b (zero_bytes c) {r = Ok tt}
           (sym (good_accepts n m s ws a b (zero_bytes c) taken (zeros_length c ∙ e) zero_good (free_known (steps_of (zero_bytes c)) (In a b) goal)))
-      go false e = yes_told_lem n m s ws a b (zero_bytes c) {r = yes.Length} (rw (taken, zeros_length c ∙ e))
+      go false e = yes_told_lem n m s ws a b (zero_bytes c) {r = Err yes.Length} (rw (taken, zeros_length c ∙ e))
 
 -- WHERE WHAT IS WORKED OUT IS WHAT THE CASE HAS, THE CASE HOLDS
 pub worked_holds : (c : Case) → worked c ≡ claimed c → Holds c
 unfolding worked claimed
 worked_holds (Ask q (Follows steps bytes count low) in_module first) e =
-    let taken : check_question q.n q.m q.pack q.marks q.a q.b ≡ Count (record_count q.pack) = cc in
-    let own : check_question q.n q.m q.pack q.marks q.a q.a ≡ Count (record_count q.pack) = cc in
+    let taken : check_question q.n q.m q.pack q.marks q.a q.b ≡ Ok (record_count q.pack) = cc in
+    let own : check_question q.n q.m q.pack q.marks q.a q.a ≡ Ok (record_count q.pack) = cc in
     let held : goal_held q.n q.m q.pack q.marks q.a q.b ≡ true = cc in
     let ours : yes_bytes q.n q.m q.pack q.marks q.a q.b ≡ bytes = cc in
     let long : length bytes ≡ 8 * steps = cc in
@@ -218,20 +218,20 @@ worked_holds (Ask q (Follows steps bytes count low) in_module first) e =
     let many : mark_count (words first) ≡ in_module = cc in
     let set : set_marks q.n q.m q.pack q.marks q.a q.b ≡ words low = cc in
     let few : mark_count (words low) ≡ count = cc in (
-      verdict_told_lem q.n q.m q.pack q.marks q.a q.b {r = verdicts.Follows} (sym (verdict_is q.n q.m q.pack q.marks q.a q.b taken held)),
+      verdict_told_lem q.n q.m q.pack q.marks q.a q.b {r = Ok verdicts.Follows} (sym (verdict_is q.n q.m q.pack q.marks q.a q.b taken held)),
       follows_sheet q.n q.m q.pack q.marks q.a q.b taken held steps bytes ours long,
       its_module q.n q.m q.pack q.marks q.a own in_module first reach many,
       its_set q.n q.m q.pack q.marks q.a q.b taken held count low set few,
     )
 worked_holds (Ask q (Not rows bytes) in_module first) e =
-    let taken : check_question q.n q.m q.pack q.marks q.a q.b ≡ Count (record_count q.pack) = cc in
-    let own : check_question q.n q.m q.pack q.marks q.a q.a ≡ Count (record_count q.pack) = cc in
+    let taken : check_question q.n q.m q.pack q.marks q.a q.b ≡ Ok (record_count q.pack) = cc in
+    let own : check_question q.n q.m q.pack q.marks q.a q.a ≡ Ok (record_count q.pack) = cc in
     let held : goal_held q.n q.m q.pack q.marks q.a q.b ≡ false = cc in
     let ours : no_bytes q.n q.m q.pack q.marks ≡ bytes = cc in
     let long : length bytes ≡ 8 * rows = cc in
     let reach : module_marks q.n q.m q.pack q.marks q.a ≡ words first = cc in
     let many : mark_count (words first) ≡ in_module = cc in (
-      verdict_told_lem q.n q.m q.pack q.marks q.a q.b {r = verdicts.Not} (sym (verdict_is q.n q.m q.pack q.marks q.a q.b taken held)),
+      verdict_told_lem q.n q.m q.pack q.marks q.a q.b {r = Ok verdicts.Not} (sym (verdict_is q.n q.m q.pack q.marks q.a q.b taken held)),
       not_sheet q.n q.m q.pack q.marks q.a q.b taken held rows bytes ours long,
       its_module q.n q.m q.pack q.marks q.a own in_module first reach many,
       no_set q.n q.m q.pack q.marks q.a q.b taken held,
@@ -252,7 +252,7 @@ worked_holds (CheckNo q sheet number place c) e =
     let v : no_place r ≡ place = cc in
     (subst₂ (GivesNo q.n q.m q.pack q.marks q.a q.b sheet) k v (no_given q.n q.m q.pack q.marks q.a q.b sheet), cc)
 worked_holds (CheckZeros q bytes number) e =
-    let taken : check_question q.n q.m q.pack q.marks q.a q.b ≡ Count (record_count q.pack) = cc in
+    let taken : check_question q.n q.m q.pack q.marks q.a q.b ≡ Ok (record_count q.pack) = cc in
     let good : good_over (lines_of q.pack) (counted q.pack q.marks) q.n (free q.n) zero_step ≡ true = cc in
     let goal : free q.n (In q.a q.b) ≡ true = cc in
     let k : cond (length_of bytes) 0 9 ≡ number = cc in

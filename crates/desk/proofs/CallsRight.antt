@@ -25,8 +25,9 @@ use Rattle.engine.specs.Verdict.{GivesVerdict}
 use Rattle.engine.proofs.Promises.{verdict_right}
 use Rattle.writer.specs.Sheet.{GivesSheet}
 use Rattle.writer.proofs.Promises.{joined}
-use Rattle.reasons.specs.declared.set.SetAnswer.{SetAnswer}
-use Rattle.reasons.specs.declared.set.SetAnswer.TheVariants as sets
+use Rattle.std.specs.Prelude.{Result, Ok, Err}
+use Rattle.reasons.specs.declared.set.SetError.{SetError}
+use Rattle.reasons.specs.declared.set.SetError.TheVariants.{NotFollows}
 use Rattle.reasons.specs.OutMarks.{reason_rows, MarksThe}
 use Rattle.reasons.specs.Module.{MarksModule}
 use Rattle.reasons.specs.Set.{MarksSet, set_rows}
@@ -88,9 +89,9 @@ set_call_right n m s marks a b out after r g e =
 pub set_call_seven : (n m : ℕ) (s marks : List ℕ) (a b : ℕ) (out after : List ℕ) (r : ℕ) → GivesSetC n m s marks a b out after (r % 256) (r / 256) → Taken n m s (marks_in marks) a b → length out ≡ 128
     → (r ≡ 7) ↔ (Follows (lines_of s) (counted s (marks_in marks)) a b → ⊥)
 set_call_seven n m s marks a b out after r g t l = (
-  λ e f. let low = (compare (sets.Count (mark_count (set_marks n m s ws a b))) (inl (f, refl, refl))).0 in omega arith,
+  λ e f. let low = (compare (Ok (mark_count (set_marks n m s ws a b))) (inl (f, refl, refl))).0 in omega arith,
   λ no.
-      let same = compare {given = blank} sets.NotFollows (inr (no, refl, refl)) in
+      let same = compare {given = blank} (Err NotFollows) (inr (no, refl, refl)) in
       let low : r % 256 ≡ 7 = same.0 in
       ⊎_elim (λ q. let high = q.0 in omega arith) (λ q. absurd (omega (arith, q.2))) same.1,
 )
@@ -102,7 +103,7 @@ set_call_seven n m s marks a b out after r g t l = (
     blank = replicate 16 0
 
     -- what is given of any 16 words has the same number
-    compare : {given : List ℕ} (x : SetAnswer) → SetTaken n m s ws a b blank given x
+    compare : {given : List ℕ} (x : Result ℕ SetError) → SetTaken n m s ws a b blank given x
         → (r % 256 ≡ set_number x) × (((r / 256 ≡ set_value x) × (after ≡ out) × (given ≡ blank)) ⊎ (((words : List ℕ) × MarksSet s ws a b (r / 256) words × (after ≡ words_bytes words)) × MarksSet s ws a b (set_value x) given × (r % 256 ≡ 0)))
     compare {given} x done =
         given_one (after ≡ out) (given ≡ blank) (λ value. (words : List ℕ) × MarksSet s ws a b value words × (after ≡ words_bytes words)) (λ value. MarksSet s ws a b value given) (set_rows n m s ws a b true)

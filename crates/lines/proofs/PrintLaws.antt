@@ -2,31 +2,32 @@
 use mathlib.Core.Path.{◌≡◌, refl, sym, ap, ◌∙◌}
 use mathlib.Core.Bool.{Bool}
 use mathlib.Core.List.{List}
-use Prim.Native.Nat.{ℕ, ◌-◌, ◌<◌}
+use Prim.Native.Nat.{ℕ, ◌<◌}
 use native.Mathlib.Decide.{dec_lt}
 use native.Mathlib.Omega.{arith}
-use lib.ListN.{length, take, drop}
+use lib.ListN.{length, take}
+use Rattle.std.proofs.Common.{Result, Ok, Err}
 use Rattle.marks.specs.Marks.{marked}
 use Rattle.text.specs.Text.{Outcome, WroteText, list_line, text_of, letters}
 use Rattle.text.specs.Text.Outcome.{refused, refused_at, follows, not_follows}
 use Rattle.text.proofs.LineLaws.{list_line_same, follows_of_marks, not_of_marks}
-use Rattle.pack.specs.declared.check.Refusal.{Refusal}
 use Rattle.pack.specs.declared.check.Refusal.TheVariants.{Sizes, Pack, Record, Marks, Goal}
-use Rattle.pack.specs.Computed.{refusal_number, refusal_place}
+use Rattle.pack.specs.declared.question.Question.{Question}
 use Rattle.pack.specs.Question.{counted}
 use Rattle.pack.specs.Record.{lines_of}
 use Rattle.pack.proofs.RecordLaws.{lines_length}
-use Rattle.engine.specs.Verdict.{GivesVerdict}
+use Rattle.engine.specs.declared.answer.VerdictError.{VerdictError}
+use Rattle.engine.specs.declared.answer.VerdictError.TheVariants.{Refused, TooLong}
+use Rattle.engine.specs.Verdict.{verdict_error_told, GivesVerdict}
 use Rattle.engine.proofs.Promises.{verdict_same}
 use Rattle.reasons.specs.Module.{MarksModule}
 use Rattle.reasons.specs.Set.{MarksSet}
 use Rattle.reasons.proofs.ReachLaws.{module_one}
 use Rattle.reasons.proofs.PrintedLaws.{printed_one}
-use Rattle.lines.specs.declared.input.Input.{Input}
-use Rattle.lines.specs.declared.input.Input.TheVariants.{Refused, Question}
-use Rattle.lines.specs.Input.{input_of}
+use Rattle.lines.specs.declared.input.Asked.{Asked}
+use Rattle.lines.specs.declared.input.InputError.{InputError}
+use Rattle.lines.specs.Input.{input_error_told, input_of}
 use Rattle.lines.specs.Prints.{all_marks, OfRecords, TellsModule, TellsSet, TellsSteps, TellsRows, PrintsAsked, PrintsRead, Prints, WritesThe}
-use Rattle.lines.specs.Inner.{refusal_outcome}
 
 -- places of records that are the same below the records' end are the same
 same_places : (s : List ℕ) (P Q : ℕ → Bool) → OfRecords s P → OfRecords s Q → ((i : ℕ) → i < length (lines_of s) → P i ≡ Q i) → (i : ℕ) → P i ≡ Q i
@@ -65,59 +66,54 @@ module _ (n m : ℕ) (s ws : List ℕ) (a b : ℕ) where
   asked_one (not_follows c M) (follows c' M' S') p q = let e = (verdict_same n m s ws a b p.0 q.0).1 in absurd (omega arith)
   asked_one (not_follows c M) (not_follows c' M') p q = rw (p.1 ∙ sym q.1, module_line (letters "module ") M M' p.2 q.2)
 
-  module _ {before after : List ℕ} {end : ℕ} where
-    -- AN OUTCOME OF EACH SORT: refused
-    refused_not_3 : (number : ℕ) → (number ≡ 0 → ⊥) → (number ≡ 3 → ⊥) → GivesVerdict n m s ws a b number 0 → WroteText (refused number) before after end → WritesThe (PrintsAsked n m s ws a b) before after end
-    unfolding PrintsAsked
-    refused_not_3 number some other g w = record { outcome = refused number; is = (g, some, other); text = w }
+module _ (q : Question) {before after : List ℕ} {end : ℕ} where
+  -- AN OUTCOME OF EACH SORT: refused
+  refused_not_3 : (number : ℕ) → (number ≡ 0 → ⊥) → (number ≡ 3 → ⊥) → GivesVerdict q.n q.m q.pack.now q.marks.now q.a q.b number 0 → WroteText (refused number) before after end → WritesThe (PrintsAsked q.n q.m q.pack.now q.marks.now q.a q.b) before after end
+  unfolding PrintsAsked
+  refused_not_3 number some other g w = record { outcome = refused number; is = (g, some, other); text = w }
 
-    pub writes_refusal : (why : Refusal) {number place : ℕ} → number ≡ refusal_number why → place ≡ refusal_place why → GivesVerdict n m s ws a b (refusal_number why) (refusal_place why) → WroteText (refusal_outcome number place) before after end → WritesThe (PrintsAsked n m s ws a b) before after end
-    unfolding PrintsAsked
-    writes_refusal why e f g w = go why g (rw (e, f) at w)
-      where
-        go : (why : Refusal) → GivesVerdict n m s ws a b (refusal_number why) (refusal_place why) → WroteText (refusal_outcome (refusal_number why) (refusal_place why)) before after end → WritesThe (PrintsAsked n m s ws a b) before after end
-        go Sizes g w = refused_not_3 1 (λ e. omega arith) (λ e. omega arith) g w
-        go Pack g w = refused_not_3 2 (λ e. omega arith) (λ e. omega arith) g w
-        go (Record i) g w = record { outcome = refused_at i; is = g; text = w }
-        go Marks g w = refused_not_3 4 (λ e. omega arith) (λ e. omega arith) g w
-        go Goal g w = refused_not_3 5 (λ e. omega arith) (λ e. omega arith) g w
+  pub writes_record : {place : ℕ} → GivesVerdict q.n q.m q.pack.now q.marks.now q.a q.b 3 place → WroteText (refused_at place) before after end → WritesThe (PrintsAsked q.n q.m q.pack.now q.marks.now q.a q.b) before after end
+  unfolding PrintsAsked
+  writes_record {place} g w = record { outcome = refused_at place; is = g; text = w }
 
-    pub writes_too_long : GivesVerdict n m s ws a b 6 0 → WroteText (refused 6) before after end → WritesThe (PrintsAsked n m s ws a b) before after end
-    writes_too_long = refused_not_3 6 (λ e. omega arith) (λ e. omega arith)
+  pub writes_refusal : (why : VerdictError) {number : ℕ} → number ≡ (verdict_error_told why).0 → (number ≡ 3 → ⊥) → GivesVerdict q.n q.m q.pack.now q.marks.now q.a q.b (verdict_error_told why).0 (verdict_error_told why).1 → WroteText (refused number) before after end → WritesThe (PrintsAsked q.n q.m q.pack.now q.marks.now q.a q.b) before after end
+  writes_refusal (Refused Sizes) {number} e h g w = refused_not_3 number (λ z. omega arith) h (rw e g) w
+  writes_refusal (Refused Pack) {number} e h g w = refused_not_3 number (λ z. omega arith) h (rw e g) w
+  writes_refusal (Refused (Record i)) e h g w = absurd (h e)
+  writes_refusal (Refused Marks) {number} e h g w = refused_not_3 number (λ z. omega arith) h (rw e g) w
+  writes_refusal (Refused Goal) {number} e h g w = refused_not_3 number (λ z. omega arith) h (rw e g) w
+  writes_refusal TooLong {number} e h g w = refused_not_3 number (λ z. omega arith) h (rw e g) w
 
-    -- FOLLOWS, NOT: by the marks of the module and of the set
-    pub writes_follows : {c k l : ℕ} {module_words set_words : List ℕ} → GivesVerdict n m s ws a b 0 1 → TellsSteps n m s ws a b c → MarksModule s ws a k module_words → MarksSet s ws a b l set_words
-        → WroteText (follows c (marked module_words) (marked set_words)) before after end → WritesThe (PrintsAsked n m s ws a b) before after end
-    unfolding PrintsAsked
-    writes_follows {c} g t p q w = record {
-      outcome = follows c p.places q.places;
-      is = (g, t, (p.is, p.past), (q.is, q.past));
-      text = follows_of_marks p.places p.are c q.places q.are w;
-    }
+  -- FOLLOWS, NOT: by the marks of the module and of the set
+  pub writes_follows : {c k l : ℕ} {module_words set_words : List ℕ} → GivesVerdict q.n q.m q.pack.now q.marks.now q.a q.b 0 1 → TellsSteps q.n q.m q.pack.now q.marks.now q.a q.b c → MarksModule q.pack.now q.marks.now q.a k module_words → MarksSet q.pack.now q.marks.now q.a q.b l set_words
+      → WroteText (follows c (marked module_words) (marked set_words)) before after end → WritesThe (PrintsAsked q.n q.m q.pack.now q.marks.now q.a q.b) before after end
+  unfolding PrintsAsked
+  writes_follows {c} g t p r w = record {
+    outcome = follows c p.places r.places;
+    is = (g, t, (p.is, p.past), (r.is, r.past));
+    text = follows_of_marks p.places p.are c r.places r.are w;
+  }
 
-    pub writes_not : {c k : ℕ} {module_words : List ℕ} → GivesVerdict n m s ws a b 0 0 → TellsRows n m s ws c → MarksModule s ws a k module_words
-        → WroteText (not_follows c (marked module_words)) before after end → WritesThe (PrintsAsked n m s ws a b) before after end
-    unfolding PrintsAsked
-    writes_not {c} g t p w = record { outcome = not_follows c p.places; is = (g, t, (p.is, p.past)); text = not_of_marks p.places p.are c w }
+  pub writes_not : {c k : ℕ} {module_words : List ℕ} → GivesVerdict q.n q.m q.pack.now q.marks.now q.a q.b 0 0 → TellsRows q.n q.m q.pack.now q.marks.now c → MarksModule q.pack.now q.marks.now q.a k module_words
+      → WroteText (not_follows c (marked module_words)) before after end → WritesThe (PrintsAsked q.n q.m q.pack.now q.marks.now q.a q.b) before after end
+  unfolding PrintsAsked
+  writes_not {c} g t p w = record { outcome = not_follows c p.places; is = (g, t, (p.is, p.past)); text = not_of_marks p.places p.are c w }
 
 -- OF AN INPUT: its own refusal, or its question
 module _ (s : List ℕ) {before after : List ℕ} {end : ℕ} where
-  pub writes_input_refused : {k : ℕ} → input_of s ≡ Refused k → WroteText (refused k) before after end → WritesThe (Prints s) before after end
+  pub writes_input_refused : {why : InputError} {number : ℕ} → input_of s ≡ Err why → number ≡ (input_error_told why).0 → WroteText (refused number) before after end → WritesThe (Prints s) before after end
   unfolding Prints
-  writes_input_refused {k} e w = record { outcome = refused k; is = rw e refl; text = w }
+  writes_input_refused {number = number} e f w = record { outcome = refused number; is = rw (e, f) refl; text = w }
 
-  -- the pack is the part from 0 to `at`
-  pub writes_question : {n m a b at : ℕ} → input_of s ≡ Question n m a b at → let pack = take (at - 0) (drop 0 s) in WritesThe (PrintsAsked n m pack (all_marks pack) a b) before after end → WritesThe (Prints s) before after end
+  pub writes_question : {q : Asked} → input_of s ≡ Ok q → WritesThe (PrintsAsked q.n q.m (take q.at s) (all_marks (take q.at s)) q.a q.b) before after end → WritesThe (Prints s) before after end
   unfolding Prints
-  writes_question {at = at} e w =
-      let all : at - 0 ≡ at = omega arith in
-      record { outcome = w.outcome; is = rw e (rw all at w.is); text = w.text }
+  writes_question e w = record { outcome = w.outcome; is = rw e w.is; text = w.text }
 
 -- ONE TEXT of an input
 pub prints_one : (s : List ℕ) (o o' : Outcome) → Prints s o → Prints s o' → text_of o ≡ text_of o'
 unfolding Prints
 prints_one s o o' = go (input_of s)
   where
-    go : (i : Input) → PrintsRead s i o → PrintsRead s i o' → text_of o ≡ text_of o'
-    go (Refused k) p q = ap text_of (p ∙ sym q)
-    go (Question n m a b at) p q = asked_one n m (take at s) (all_marks (take at s)) a b o o' p q
+    go : (i : Result Asked InputError) → PrintsRead s i o → PrintsRead s i o' → text_of o ≡ text_of o'
+    go (Err why) p q = ap text_of (p ∙ sym q)
+    go (Ok r) p q = asked_one r.n r.m (take r.at s) (all_marks (take r.at s)) r.a r.b o o' p q

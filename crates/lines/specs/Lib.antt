@@ -1,4 +1,3 @@
 -- What the bench program's input asks, and what is printed for it.
 pub mod Input
 pub mod Prints
-pub mod Inner

@@ -1,5 +1,5 @@
 -- What the bench program prints (document 01, "The valve pack"): the outcome for the bytes of its input. The outcome's text is `text_of`, in the crate text.
-use Rattle.std.specs.Prelude.{◌≡◌, Bool, false, List, ℕ, ◌≤◌, ltb, length, take}
+use Rattle.std.specs.Prelude.{◌≡◌, Bool, false, List, ℕ, ◌≤◌, ltb, length, take, Result, Ok, Err}
 use Rattle.marks.specs.Marks.{marks_of}
 use Rattle.text.specs.Text.{Outcome, WroteText}
 use Rattle.text.specs.Text.Outcome.{refused, refused_at, follows, not_follows}
@@ -9,9 +9,9 @@ use Rattle.passes.specs.Ours.{our_steps, our_rows}
 use Rattle.engine.specs.Verdict.{GivesVerdict}
 use Rattle.reasons.specs.Printed.{IsPrinted}
 use Rattle.reasons.specs.Reach.{IsModule}
-use Rattle.lines.specs.declared.input.Input.{Input}
-use Rattle.lines.specs.declared.input.Input.TheVariants.{Refused, Question}
-use Rattle.lines.specs.Input.{input_of}
+use Rattle.lines.specs.declared.input.Asked.{Asked}
+use Rattle.lines.specs.declared.input.InputError.{InputError}
+use Rattle.lines.specs.Input.{input_error_told, input_of}
 
 -- everything is marked: each record of the pack
 unfoldable pub all_marks : List ℕ → List ℕ
@@ -42,10 +42,10 @@ PrintsAsked n m s ws a b (refused_at place) = GivesVerdict n m s ws a b 3 place
 PrintsAsked n m s ws a b (follows steps M S) = GivesVerdict n m s ws a b 0 1 × TellsSteps n m s ws a b steps × TellsModule s ws a M × TellsSet s ws a b S
 PrintsAsked n m s ws a b (not_follows rows M) = GivesVerdict n m s ws a b 0 0 × TellsRows n m s ws rows × TellsModule s ws a M
 
--- of an input: its own refusal, or the question about the pack that ends at `at`, with everything marked
-abbrev pub PrintsRead : List ℕ → Input → Outcome → Type 0
-PrintsRead s (Refused number) o = o ≡ refused number
-PrintsRead s (Question n m a b at) o = PrintsAsked n m (take at s) (all_marks (take at s)) a b o
+-- of an input: its own refusal by its number, or the question about the pack that ends at `at`, with everything marked
+abbrev pub PrintsRead : List ℕ → Result Asked InputError → Outcome → Type 0
+PrintsRead s (Err why) o = o ≡ refused (input_error_told why).0
+PrintsRead s (Ok q) o = PrintsAsked q.n q.m (take q.at s) (all_marks (take q.at s)) q.a q.b o
 
 unfoldable pub Prints : List ℕ → Outcome → Type 0
 Prints s = PrintsRead s (input_of s)

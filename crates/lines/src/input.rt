@@ -1,57 +1,61 @@
 // Standard input: a pack, then one question record of 8 bytes.
-ghost use Rattle.std.specs.Prelude.{◌≡◌, length};
-ghost use Rattle.lines.specs.Input.{question_in, input_of};
+ghost use Rattle.std.specs.Prelude.{◌≡◌};
+ghost use Rattle.lines.specs.Input.{input_error_told, input_of};
 
-// What the input asks: sizes and a goal of the pack that ends at `at`; or 1 or 2 of document 01's table.
-#[derive(Clone, Copy)]
-pub enum Input {
-    Refused(u32),
-    Question {
-        n: u8,
-        m: u8,
-        a: u8,
-        b: u8,
-        at: usize,
-    },
+use pack::told::Told;
+
+// The longest input that is answered: 1,024 records and the question record.
+const LONGEST: usize = 8200;
+
+// What the input asks: sizes and a goal of the pack that ends at `at`.
+#[derive(Clone, Copy, Debug, PartialEq, Eq)]
+pub struct Asked {
+    pub n: u8,
+    pub m: u8,
+    pub a: u8,
+    pub b: u8,
+    pub at: usize,
 }
 
-// The question record in 8 bytes: 0, n, m, A, B, three zeros.
-fn read_question(q: &[u8], at: usize) -> Input
-    requires { length q.now ≡ 8 }
-    ensures { result ≡ question_in q.now at }
-{
-    if q[0] != 0 {
-        return Input::Refused(1);
+// Why an input asks nothing: 1 and 2 of document 01's table.
+#[derive(Clone, Copy, Debug, PartialEq, Eq)]
+pub enum InputError {
+    Shape,
+    TooLong,
+}
+
+impl Told for InputError {
+    ghost told = { input_error_told };
+
+    fn number(&self) -> u32 {
+        match self {
+            InputError::Shape => 1,
+            InputError::TooLong => 2,
+        }
     }
-    if q[5] != 0 {
-        return Input::Refused(1);
-    }
-    if q[6] != 0 {
-        return Input::Refused(1);
-    }
-    if q[7] != 0 {
-        return Input::Refused(1);
-    }
-    Input::Question {
-        n: q[1],
-        m: q[2],
-        a: q[3],
-        b: q[4],
-        at: at,
+
+    fn value(&self) -> u64 {
+        0
     }
 }
 
-// The question of an input of any length and content.
-pub fn read_input(s: &[u8]) -> Input
+// The question of an input of any length and content. Its record is 0, n, m, A, B, three zeros.
+#[tactic(auto, using(crate::proofs::InputLaws::no_question))]
+pub fn read_input(s: &[u8]) -> Result<Asked, InputError>
     ensures { result ≡ input_of s.now }
 {
-    let too_long = 8200 < s.len();
+    let too_long = LONGEST < s.len();
     if too_long {
-        return Input::Refused(2);
+        return Err(InputError::TooLong);
     }
-    if s.len() < 8 {
-        return Input::Refused(1);
-    }
-    let at = s.len() - 8;
-    read_question(&s[at..s.len()], at)
+    let [pack @ .., 0, n, m, a, b, 0, 0, 0] = s else {
+        return Err(InputError::Shape);
+    };
+    Ok(Asked {
+        n: *n,
+        m: *m,
+        a: *a,
+        b: *b,
+        at: pack.len(),
+    })
 }

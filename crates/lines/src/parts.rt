@@ -9,64 +9,49 @@ ghost use Rattle.reasons.specs.Set.{MarksSet};
 ghost use Rattle.lines.specs.Prints.{TellsSteps, TellsRows, all_marks};
 
 use marks::change::cut_marks;
+use pack::question::Question;
 use reasons::module::module_for;
 use reasons::set::printed_set;
-use writer::write::{SheetAnswer, write_sheet};
+use writer::answer::{Sheet, SheetError};
+use writer::write::write_sheet;
 
 // Everything is marked: of all places, those of the pack's records.
 pub fn mark_all(pack: &[u8]) -> [u64; 16]
     ensures { result ≡ all_marks pack.now }
 {
-    let all = [18446744073709551615u64; 16];
-    cut_marks(&all, pack.len() / 8, 1024)
+    cut_marks(&[u64::MAX; 16], pack.len() / 8, 1024)
 }
 
 // The steps or rows of our sheet, where the question is taken: what the writer says that a sheet of no bytes would need.
-pub fn sheet_parts<'a>(
-    n: usize,
-    m: usize,
-    pack: &'a [u8],
-    marks: &'a [u64],
-    a: usize,
-    b: usize,
-) -> u32
-    requires { Taken n m pack.now marks.now a b }
-    ensures { (Follows (lines_of pack.now) (counted pack.now marks.now) a b → TellsSteps n m pack.now marks.now a b result) × ((Follows (lines_of pack.now) (counted pack.now marks.now) a b → ⊥) → TellsRows n m pack.now marks.now result) }
+pub fn sheet_parts(q: &Question) -> u32
+    requires { Taken q.now.n q.now.m q.now.pack.now q.now.marks.now q.now.a q.now.b }
+    ensures { (Follows (lines_of q.now.pack.now) (counted q.now.pack.now q.now.marks.now) q.now.a q.now.b → TellsSteps q.now.n q.now.m q.now.pack.now q.now.marks.now q.now.a q.now.b result) × ((Follows (lines_of q.now.pack.now) (counted q.now.pack.now q.now.marks.now) q.now.a q.now.b → ⊥) → TellsRows q.now.n q.now.m q.now.pack.now q.now.marks.now result) }
 {
-    let mut none = [0u8; 0];
-    let answer = write_sheet(n, m, pack, marks, a, b, &mut none);
-    match answer {
-        SheetAnswer::Refused(_) => 0,
-        SheetAnswer::TooLong => 0,
-        SheetAnswer::NoRoom(bytes) => bytes / 8,
-        SheetAnswer::Follows(steps) => steps,
-        SheetAnswer::Not(rows) => rows,
+    match write_sheet(q, &mut []) {
+        Ok(Sheet::Follows(steps)) => steps,
+        Ok(Sheet::Not(rows)) => rows,
+        Err(SheetError::NoRoom(bytes)) => bytes / 8,
+        Err(_) => 0,
     }
 }
 
 // The marks of the module for a, where a question about it is taken.
-pub fn module_marks<'a>(n: usize, m: usize, pack: &'a [u8], marks: &'a [u64], a: usize) -> [u64; 16]
-    requires { Taken n m pack.now marks.now a a }
-    ensures { MarksModule pack.now marks.now a (mark_count result) result }
+pub fn module_marks(q: &Question) -> [u64; 16]
+    requires { Taken q.now.n q.now.m q.now.pack.now q.now.marks.now q.now.a q.now.a }
+    ensures { MarksModule q.now.pack.now q.now.marks.now q.now.a (mark_count result) result }
 {
     let mut out = [0u64; 16];
-    let _ = module_for(n, m, pack, marks, a, &mut out);
+    let _ = module_for(q, &mut out);
     out
 }
 
 // The marks of the printed set, where the question is taken and the goal follows.
-pub fn set_marks<'a>(
-    n: usize,
-    m: usize,
-    pack: &'a [u8],
-    marks: &'a [u64],
-    a: usize,
-    b: usize,
-) -> [u64; 16]
-    requires { Taken n m pack.now marks.now a b × Follows (lines_of pack.now) (counted pack.now marks.now) a b }
-    ensures { MarksSet pack.now marks.now a b (mark_count result) result }
+pub fn set_marks(q: &Question) -> [u64; 16]
+    requires taken { Taken q.now.n q.now.m q.now.pack.now q.now.marks.now q.now.a q.now.b }
+    requires follows { Follows (lines_of q.now.pack.now) (counted q.now.pack.now q.now.marks.now) q.now.a q.now.b }
+    ensures { MarksSet q.now.pack.now q.now.marks.now q.now.a q.now.b (mark_count result) result }
 {
     let mut out = [0u64; 16];
-    let _ = printed_set(n, m, pack, marks, a, b, &mut out);
+    let _ = printed_set(q, &mut out);
     out
 }

@@ -1,79 +1,37 @@
 // The text of a question, by its verdict.
-ghost use Rattle.text.specs.Text.{WroteText};
-ghost use Rattle.engine.specs.Verdict.{GivesVerdict};
-ghost use Rattle.lines.specs.Inner.{refusal_outcome};
+ghost use Rattle.engine.specs.Verdict.{verdict_error_told, GivesVerdict};
 ghost use Rattle.lines.specs.Prints.{PrintsAsked, WritesThe};
 
 use crate::parts::{module_marks, set_marks, sheet_parts};
-use engine::verdict::{VerdictAnswer, verdict};
-use pack::check::{refusal_number, refusal_place};
+use engine::answer::{Verdict, VerdictError};
+use engine::verdict::verdict;
+use pack::check::Refusal;
+use pack::question::Question;
+use pack::told::Told;
 use text::outcome::{write_follows, write_not, write_refused, write_refused_at};
 
-// A refusal: 3, RECORD, by its place, any other by its number.
-fn refusal_text(out: &mut [u8; 8192], number: u32, place: u32) -> usize
-    ensures { WroteText (refusal_outcome number place) out.old out.new result }
+// A refusal: of RECORD by its place, any other by its number.
+fn refusal_text(out: &mut [u8; 8192], q: &Question, why: VerdictError) -> usize
+    requires { GivesVerdict q.now.n q.now.m q.now.pack.now q.now.marks.now q.now.a q.now.b (verdict_error_told why).0 (verdict_error_told why).1 }
+    ensures { WritesThe (PrintsAsked q.now.n q.now.m q.now.pack.now q.now.marks.now q.now.a q.now.b) out.old out.new result }
 {
-    let by_place = number == 3;
-    if by_place {
-        return write_refused_at(out, place);
+    match why {
+        VerdictError::Refused(Refusal::Record(place)) => write_refused_at(out, place),
+        _ => write_refused(out, why.number()),
     }
-    write_refused(out, number)
 }
 
-// FOLLOWS: the steps, the module, the set.
-fn follows_text<'a>(
-    out: &mut [u8; 8192],
-    n: usize,
-    m: usize,
-    pack: &'a [u8],
-    marks: &'a [u64],
-    a: usize,
-    b: usize,
-) -> usize
-    requires { GivesVerdict n m pack.now marks.now a b 0 1 }
-    ensures { WritesThe (PrintsAsked n m pack.now marks.now a b) out.old out.new result }
+// The text of a question, whatever its marks: FOLLOWS with the steps, the module and the set, NOT with the rows and the module.
+pub fn question_text(out: &mut [u8; 8192], q: &Question) -> usize
+    ensures { WritesThe (PrintsAsked q.now.n q.now.m q.now.pack.now q.now.marks.now q.now.a q.now.b) out.old out.new result }
 {
-    let steps = sheet_parts(n, m, pack, marks, a, b);
-    let module = module_marks(n, m, pack, marks, a);
-    let set = set_marks(n, m, pack, marks, a, b);
-    write_follows(out, steps, &module, &set)
-}
-
-// NOT: the rows, the module.
-fn not_text<'a>(
-    out: &mut [u8; 8192],
-    n: usize,
-    m: usize,
-    pack: &'a [u8],
-    marks: &'a [u64],
-    a: usize,
-    b: usize,
-) -> usize
-    requires { GivesVerdict n m pack.now marks.now a b 0 0 }
-    ensures { WritesThe (PrintsAsked n m pack.now marks.now a b) out.old out.new result }
-{
-    let rows = sheet_parts(n, m, pack, marks, a, b);
-    let module = module_marks(n, m, pack, marks, a);
-    write_not(out, rows, &module)
-}
-
-// The text of a question, whatever its marks.
-pub fn question_text<'a>(
-    out: &mut [u8; 8192],
-    n: usize,
-    m: usize,
-    pack: &'a [u8],
-    marks: &'a [u64],
-    a: usize,
-    b: usize,
-) -> usize
-    ensures { WritesThe (PrintsAsked n m pack.now marks.now a b) out.old out.new result }
-{
-    let answer = verdict(n, m, pack, marks, a, b);
-    match answer {
-        VerdictAnswer::Refused(why) => refusal_text(out, refusal_number(why), refusal_place(why)),
-        VerdictAnswer::TooLong => refusal_text(out, 6, 0),
-        VerdictAnswer::Follows => follows_text(out, n, m, pack, marks, a, b),
-        VerdictAnswer::Not => not_text(out, n, m, pack, marks, a, b),
+    match verdict(q) {
+        Ok(Verdict::Follows) => {
+            let module = module_marks(q);
+            let set = set_marks(q);
+            write_follows(out, sheet_parts(q), &module, &set)
+        }
+        Ok(Verdict::Not) => write_not(out, sheet_parts(q), &module_marks(q)),
+        Err(why) => refusal_text(out, q, why),
     }
 }

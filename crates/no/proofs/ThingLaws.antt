@@ -1,23 +1,20 @@
 -- Laws of a thing and its row: tests over 64 bits, and over the k things that a row speaks of.
 use mathlib.Core.Path.{◌≡◌, refl, sym, ap, ◌∙◌}
-use mathlib.Core.Bool.{Bool, true, false, cond, not, ◌&&◌, ◌||◌}
-use mathlib.Core.List.{List, [], ◌∷◌}
+use mathlib.Core.Bool.{Bool, true, false, not, ◌&&◌, ◌||◌}
 use Prim.Native.Nat.{ℕ, zero, suc, ◌+◌, ◌-◌, ◌^◌, ◌≤◌, ◌<◌}
 use native.Mathlib.Decide.{ℕ_discrete, dec_lt}
 use native.Mathlib.Nat.{zero-add}
 use native.Mathlib.Omega.{arith}
 use lib.Bits.{bit_and}
 use lib.Dec.{eqb}
-use Rattle.std.specs.Prelude.{filter, Option, Some, None, MatchOption}
-use Rattle.std.specs.List.{range_with_len, list_all, list_any, FoldsTo}
-use Rattle.std.specs.Iterator.{Yields, CallableAtEachTurn}
+use Rattle.std.specs.Prelude.{Option, Some, None, MatchOption}
+use Rattle.std.specs.List.{range_with_len, list_all, list_any}
 use borrow.Author.Tests.{eq-eqb, ne_eqb, eqb-true, eqb-false, not-true, not-false}
 use Rattle.bits.specs.Bit.{has}
-use Rattle.bits.specs.Sets.{lowest, found_below, every, some}
-use Rattle.bits.proofs.Truth.{both_true, true_both, or_elim, or_left, or_right, alike, never, is_no}
-use Rattle.bits.proofs.SetLaws.{none_lowest, lowest_at, every_true, true_every, some_true, true_some, some_false}
-use Rattle.bits.specs.Walk.{WalkStep}
-use Rattle.bits.proofs.FoundLaws.{found, at_found, end_found}
+use Rattle.bits.specs.Sets.{lowest, found_below, count_to, every, some}
+use Rattle.bits.proofs.Truth.{both_true, true_both, or_elim, or_left, or_right, and_no, alike, never, is_no}
+use Rattle.bits.proofs.SetLaws.{none_lowest, lowest_at, every_true, true_every, every_false, some_true, true_some, some_false, count_less}
+use Rattle.bits.proofs.FoundLaws.{Found, Missing, at_found, end_found}
 use Rattle.bits.proofs.BitLaws.{meets_none, none_meets, contained, contains}
 use Rattle.pack.specs.Computed.{implies}
 use Rattle.pack.proofs.WorldLaws.{implies_true, true_implies}
@@ -63,36 +60,6 @@ module _ (p : ℕ → Bool) where
       alike (list_any p (range_with_len 0 n)) (some n p)
       (λ h. let r = any_each n 0 h in let l = r.1 in true_some p n r.0 (omega arith) r.2)
       (λ h. let r = some_true p n h in let l = r.1 in each_any n 0 r.0 (omega arith) (omega arith) r.2)
-
--- those of a list that are in p: each has q where each of the list that is in p does
-pub list_filter : (p q : ℕ → Bool) (xs : List ℕ) → list_all q (filter p xs) ≡ list_all (λ j. implies (p j) (q j)) xs
-unfolding implies
-list_filter p q [] = refl
-list_filter p q (x ∷ xs) = go (p x) (list_filter p q xs)
-  where
-    go : (t : Bool) → list_all q (filter p xs) ≡ list_all (λ j. implies (p j) (q j)) xs → list_all q (cond t (x ∷ filter p xs) (filter p xs)) ≡ ((not t || q x) && list_all (λ j. implies (p j) (q j)) xs)
-    go true e = ap (λ (t : Bool). q x && t) e
-    go false e = e
-
--- steps that leave a value as it was
-folds_same : {P : Type 0} (R : P → ℕ → P → Type 0) → ((p : P) (x : ℕ) (q : P) → R p x q → q ≡ p) → (xs : List ℕ) (p q : P) → FoldsTo R p xs q → q ≡ p
-folds_same R same [] p q e = sym e
-folds_same R same (x ∷ xs) p q y = folds_same R same xs y.0 q y.2 ∙ same p x y.0 y.1
-
--- WHAT MAY BE ASKED OF A CLOSURE over a walk: it is called at numbers of the set below c
-module _ {S K : Type 0} (c : ℕ) (set : K → ℕ → Bool) (holds : S → K) (from : S → ℕ) where
-  walk_held : (xs : List ℕ) (s t : S) → Yields (WalkStep c set holds from) s xs t → holds t ≡ holds s
-  walk_held [] s t e = ap holds (sym e)
-  walk_held (x ∷ xs) s t y = walk_held xs y.0 t y.2 ∙ y.1.keeps
-
-  pub walk_serves : {P : Type 0} (R : P → ℕ → P → Type 0) (Q : P → ℕ → Type 0) (s : S) (p : P) → ((p : P) (x : ℕ) (q : P) → R p x q → q ≡ p) → ((x : ℕ) → x < c → set (holds s) x ≡ true → Q p x)
-      → CallableAtEachTurn (WalkStep c set holds from) R Q s p
-  walk_serves R Q s p same ask =
-      record {
-        at = λ xs t q x u y f h.
-            let g = found h.gives in
-            rw (folds_same R same xs p q f) (ask x g.there (rw (walk_held xs s t y) at g.here));
-      }
 
 -- the first number of a set below c is the lowest
 pub lowest_first : (p : ℕ → Bool) (c i : ℕ) → i < c → ((j : ℕ) → j < i → p j ≡ false) → p i ≡ true → lowest p 0 c ≡ i
@@ -142,3 +109,22 @@ some_things p q k h e f =
     at : (j : ℕ) → p j ≡ true → Dec (j < k) → some k q ≡ true
     at j s (yes l) = true_some q k j l (sym (e j l) ∙ s)
     at j s (no l) = never s (f j (omega arith))
+
+-- a step of a walk that takes the lowest set bit off a word leaves one less
+pub walk_less : (rest next : ℕ) {y : ℕ} → ((j : ℕ) → has next j ≡ (has rest j && not (eqb (lowest (has rest) 0 64) j))) → Found (has rest) 0 64 y → count_to (has next) 64 < count_to (has rest) 64
+walk_less rest next {y} off t =
+    count_less (has next) (has rest) (λ j h. (both_true (has rest j) (not (eqb (lowest (has rest) 0 64) j)) (sym (off j) ∙ h)).0) 64 y t.there
+    (off y ∙ and_no (has rest y) _ (rw (lowest_first (has rest) 64 y t.there (λ j h. t.before j (omega arith) h) t.here, eq-eqb y y refl))) t.here
+
+-- a walk over the set bits of a word w: the rest are bits of w, and the bits of w that are gone are ok
+module _ (w : ℕ) (ok : ℕ → Bool) where
+  pub record Walked (rest : ℕ) : Type 0 where
+    pub set : (j : ℕ) → has rest j ≡ true → has w j ≡ true
+    pub gone : (j : ℕ) → has w j ≡ true → has rest j ≡ false → ok j ≡ true
+
+  pub walk_end : (k rest : ℕ) → k ≤ 64 → Walked rest → Missing (has rest) 0 64 → true ≡ every k (λ j. implies (has w j) (ok j))
+  walk_end k rest h p m = sym (true_every (λ j. implies (has w j) (ok j)) k (λ j l. true_implies (has w j) (ok j) (λ t. p.gone j t (m.none j (omega arith) (omega arith)))))
+
+  pub walk_fails : (k y : ℕ) → y < k → has w y ≡ true → ok y ≡ false → false ≡ every k (λ j. implies (has w j) (ok j))
+  unfolding implies
+  walk_fails k y h t o = sym (every_false (λ j. implies (has w j) (ok j)) k y h (rw (t, o)))

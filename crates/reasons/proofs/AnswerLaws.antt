@@ -2,6 +2,7 @@
 use mathlib.Core.Path.{◌≡◌, refl, sym, ap, ◌∙◌}
 use mathlib.Core.Bool.{Bool, true, false}
 use mathlib.Core.List.{List}
+use Rattle.std.specs.Prelude.{Ok}
 use Prim.Native.Nat.{ℕ, zero, suc, ◌+◌, ◌≤◌, ◌<◌}
 use native.Mathlib.Decide.{dec_lt}
 use native.Mathlib.Omega.{arith}
@@ -12,12 +13,11 @@ use Rattle.bits.proofs.Truth.{never}
 use Rattle.marks.specs.Marks.{marked, marks_of}
 use Rattle.marks.proofs.WordLaws.{marks_length, marks_alike, marks_again}
 use Rattle.pack.specs.Question.{counted}
-use Rattle.pack.specs.Computed.{Admitted}
+use Rattle.pack.specs.Computed.{check_question}
 use Rattle.pack.specs.Record.{lines_of}
 use Rattle.pack.specs.World.{Follows}
 use Rattle.pack.proofs.QuestionLaws.{asked, asked_valid}
 use Rattle.passes.specs.Passes.{goal_at_end}
-use Rattle.reasons.specs.Names.{AdmittedOf}
 use Rattle.reasons.specs.Printed.{IsPicked, IsPrinted, without}
 use Rattle.reasons.specs.Computed.{module_of, spared, picked, printed, set_marks}
 use Rattle.reasons.specs.Reach.{IsModule}
@@ -44,11 +44,7 @@ clear_words : replicate 16 0 ≡ marks_of (λ _. false)
 unfolding marks_of listed row
 clear_words = refl
 
-module _ (n m : ℕ) (s ws : List ℕ) (a b : ℕ) (t : Admitted n m s ws a b) (f : Follows (lines_of s) (counted s ws) a b) where
-  -- it is a question about a
-  about : AdmittedOf n m s ws a
-  about = (b, t)
-
+module _ (n m : ℕ) (s ws : List ℕ) (a b : ℕ) {c : ℕ} (t : check_question n m s ws a b ≡ Ok c) (f : Follows (lines_of s) (counted s ws) a b) where
   pub printed_fewer : (i : ℕ) → printed (lines_of s) (counted s ws) n m a b i ≡ true → counted s ws i ≡ true
   unfolding printed picked
   printed_fewer = spared_fewer (λ P. goal_at_end (lines_of s) P n m a b) (length (lines_of s)) 0 (counted s ws)
@@ -58,7 +54,7 @@ module _ (n m : ℕ) (s ws : List ℕ) (a b : ℕ) (t : Admitted n m s ws a b) (
   past_none P fewer i l = go (P i) refl
     where
       go : (v : Bool) → P i ≡ v → v ≡ false
-      go true e = never (fewer i e) (none_past n m s ws a about i l)
+      go true e = never (fewer i e) (none_past n m s ws a b t i l)
       go false e = refl
 
   -- WORDS THAT MARK A PRINTED SET are the words of the printed set
@@ -68,7 +64,7 @@ module _ (n m : ℕ) (s ws : List ℕ) (a b : ℕ) (t : Admitted n m s ws a b) (
       go : (i : ℕ) → Dec (i < length (lines_of s)) → marked r i ≡ printed (lines_of s) (counted s ws) n m a b i
       go i (yes l) =
           printed_one (lines_of s) (counted s ws) a b (marked r) p (printed (lines_of s) (counted s ws) n m a b)
-          (printed_is (lines_of s) n m a b (asked_valid n m s ws a b t.1) (asked n m s ws a b t.1).pack.n_some (asked n m s ws a b t.1).goal_a (counted s ws) f) i l
+          (printed_is (lines_of s) n m a b (asked_valid n m s ws a b t) (asked n m s ws a b t).pack.n_some (asked n m s ws a b t).goal_a (counted s ws) f) i l
       go i (no l) = past_none (marked r) fewer i (omega arith) ∙ sym (past_none (printed (lines_of s) (counted s ws) n m a b) printed_fewer i (omega arith))
 
   -- A EQUAL TO B: no record is needed
@@ -83,26 +79,23 @@ module _ (n m : ℕ) (s ws : List ℕ) (a b : ℕ) (t : Admitted n m s ws a b) (
   -- THE MODULE FIRST: it is taken, the goal follows from it, and what is picked from it is the printed set
   module _ (inside : List ℕ) (e : inside ≡ marks_of (module_of (lines_of s) (counted s ws) n m a)) where
     inside_module : IsModule (lines_of s) (counted s ws) a (marked inside)
-    inside_module = rw e (marks_module n m s ws a about)
+    inside_module = rw e (marks_module n m s ws a b t)
 
-    inside_fewer : (i : ℕ) → marked inside i ≡ true → counted s ws i ≡ true
+    pub inside_fewer : (i : ℕ) → marked inside i ≡ true → counted s ws i ≡ true
     inside_fewer i h = go (dec_lt i (length (lines_of s)))
       where
         go : Dec (i < length (lines_of s)) → counted s ws i ≡ true
         go (yes l) = (inside_true (lines_of s) (counted s ws) inside_module.names i (sym (inside_module.places i l) ∙ h)).0
-        go (no l) = never h (ap (λ (v : List ℕ). marked v i) e ∙ marks_past n m s ws a about i (omega arith))
+        go (no l) = never h (ap (λ (v : List ℕ). marked v i) e ∙ marks_past n m s ws a b t i (omega arith))
 
-    pub inside_taken : Admitted n m s inside a b
+    pub inside_taken : check_question n m s inside a b ≡ Ok c
     inside_taken = fewer_taken n m s ws a b t inside (ap length e ∙ marks_length (module_of (lines_of s) (counted s ws) n m a)) inside_fewer
-
-    pub inside_words : inside ≡ marks_of (marked inside)
-    inside_words = marks_again (module_of (lines_of s) (counted s ws) n m a) inside e
 
     pub inside_follows : Follows (lines_of s) (marked inside) a b
     inside_follows =
-        (module_follows (lines_of s) (counted s ws) n m a b (asked_valid n m s ws a b t.1) (asked n m s ws a b t.1).pack.n_some (asked n m s ws a b t.1).goal_a (marked inside) inside_module).0 f
+        (module_follows (lines_of s) (counted s ws) n m a b (asked_valid n m s ws a b t) (asked n m s ws a b t).pack.n_some (asked n m s ws a b t).goal_a (marked inside) inside_module).0 f
 
     pub inside_set : (r : List ℕ) → (r ≡ marks_of (marked r)) × ((i : ℕ) → marked r i ≡ true → marked inside i ≡ true) → IsPicked (length (lines_of s)) (λ P. Follows (lines_of s) P a b) (marked inside) (marked r) → r ≡ set_marks n m s ws a b
     inside_set r w p =
         set_words r w.0 (λ i h. inside_fewer i (w.1 i h))
-        (inside_printed (lines_of s) (counted s ws) n m a b (asked_valid n m s ws a b t.1) (asked n m s ws a b t.1).pack.n_some (asked n m s ws a b t.1).goal_a (marked inside) inside_module (marked r) p)
+        (inside_printed (lines_of s) (counted s ws) n m a b (asked_valid n m s ws a b t) (asked n m s ws a b t).pack.n_some (asked n m s ws a b t).goal_a (marked inside) inside_module (marked r) p)

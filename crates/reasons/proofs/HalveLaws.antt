@@ -2,13 +2,11 @@
 use mathlib.Core.Path.{◌≡◌, sym, ap, ◌∙◌, subst}
 use mathlib.Core.Bool.{Bool, true, false}
 use mathlib.Core.List.{List}
-use Prim.Native.Nat.{ℕ, ◌+◌, ◌-◌, ◌≤◌, ◌<◌}
+use Prim.Native.Nat.{ℕ, ◌+◌, ◌≤◌, ◌<◌}
 use native.Mathlib.Decide.{dec_lt}
 use native.Mathlib.Omega.{arith}
-use Rattle.bits.specs.Sets.{lowest}
 use Rattle.bits.proofs.Truth.{never}
 use Rattle.marks.specs.Marks.{marked, marks_of, cut_out}
-use Rattle.marks.proofs.MarkLaws.{next_lowest}
 use Rattle.marks.proofs.CutLaws.{cut_before, cut_after, cut_gone, cut_fewer, cut_marked}
 use Rattle.marks.proofs.WordLaws.{sixteen_again}
 use Rattle.reasons.specs.Printed.{Subset, IsPicked}
@@ -106,8 +104,8 @@ pub record Rest (len : ℕ) (F : (ℕ → Bool) → Type 0) (S : ℕ → Bool) (
 
 module _ (len : ℕ) (F : (ℕ → Bool) → Type 0) (mono : (P Q : ℕ → Bool) → Subset len P Q → F P → F Q) (most : len ≤ 1024) (S : ℕ → Bool) (ws : List ℕ) where
   -- up to the next marked place
-  pub rest_on : (i k : ℕ) → Rest len F S ws i → k ≡ lowest (marked ws) i (1024 - i) → Rest len F S ws k
-  rest_on i k t e = record { words = t.words; halved = halved_on len F mono S (marked ws) i t.halved k (next_lowest ws i k e).none }
+  pub rest_on : (i k : ℕ) → Rest len F S ws i → ((j : ℕ) → i ≤ j → j < k → marked ws j ≡ false) → Rest len F S ws k
+  rest_on i k t none = record { words = t.words; halved = halved_on len F mono S (marked ws) i t.halved k none }
 
   -- a turn of the loop
   pub rest_next : (i k : ℕ) → Rest len F S ws i → Next F (marked ws) i k → (ws' : List ℕ) → ws' ≡ marks_of (cut_out (marked ws) i k) → Rest len F S ws' (k + 1)

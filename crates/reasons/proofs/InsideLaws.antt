@@ -21,7 +21,9 @@ use Rattle.passes.specs.Passes.{goal_at_end}
 use Rattle.passes.proofs.PassLaws.{table_holds, decides}
 use Rattle.reasons.specs.Printed.{Subset, IsMinimal, IsPrinted}
 use Rattle.reasons.specs.Computed.{printed}
-use Rattle.reasons.specs.Reach.{Name, concept, role, left_names, right_names, all_in, module_in, IsModule}
+use Rattle.reasons.specs.declared.names.Name.{Name}
+use Rattle.reasons.specs.declared.names.Name.TheVariants.{Concept, Role}
+use Rattle.reasons.specs.Reach.{left_names, right_names, all_in, module_in, IsModule}
 use Rattle.reasons.proofs.PickLaws.{picked_same}
 use Rattle.reasons.proofs.PrintedLaws.{follows_more, printed_minimal, printed_one, printed_is}
 
@@ -31,8 +33,8 @@ about (In x b) = x
 about (Link x r y) = x
 
 abbrev Said : (Name → Bool) → Fact → Type 0
-Said R (In x b) = R (concept b) ≡ true
-Said R (Link x r y) = (R (role r) ≡ true) × (R (concept y) ≡ true)
+Said R (In x b) = R (Concept b) ≡ true
+Said R (Link x r y) = (R (Role r) ≡ true) × (R (Concept y) ≡ true)
 
 module _ (R : Name → Bool) where
   all_one : (x : Name) → R x ≡ true → all_in R (x ∷ []) ≡ true
@@ -48,19 +50,19 @@ module _ (R : Name → Bool) where
   head x xs h = both_true (R x) (all_in R xs) h
 
   -- one step about a reached X: the left side is reached, premise two is about a reached concept, and with the right side the conclusion is said
-  step_said : (l : Line) (x y z : ℕ) → R (concept x) ≡ true → Said R (rule_of l x y z).one → (R (concept (about (rule_of l x y z).two)) ≡ true → Said R (rule_of l x y z).two)
-      → (all_in R (left_names l) ≡ true) × (R (concept (about (rule_of l x y z).two)) ≡ true) × (all_in R (right_names l) ≡ true → Said R (rule_of l x y z).gives)
+  step_said : (l : Line) (x y z : ℕ) → R (Concept x) ≡ true → Said R (rule_of l x y z).one → (R (Concept (about (rule_of l x y z).two)) ≡ true → Said R (rule_of l x y z).two)
+      → (all_in R (left_names l) ≡ true) × (R (Concept (about (rule_of l x y z).two)) ≡ true) × (all_in R (right_names l) ≡ true → Said R (rule_of l x y z).gives)
   unfolding all_in
-  step_said (Under a b) x y z k h₁ h₂ = (all_one (concept a) h₁, k, λ r. (head (concept b) [] r).0)
-  step_said (BothUnder a₁ a₂ b) x y z k h₁ h₂ = (all_both (concept a₁) (concept a₂) h₁ (h₂ k), k, λ r. (head (concept b) [] r).0)
+  step_said (Under a b) x y z k h₁ h₂ = (all_one (Concept a) h₁, k, λ r. (head (Concept b) [] r).0)
+  step_said (BothUnder a₁ a₂ b) x y z k h₁ h₂ = (all_both (Concept a₁) (Concept a₂) h₁ (h₂ k), k, λ r. (head (Concept b) [] r).0)
   step_said (UnderSome a s b) x y z k h₁ h₂ =
-      (all_one (concept a) h₁, k, λ r. let p = head (role s) (concept b ∷ []) r in (p.0, (head (concept b) [] p.1).0))
-  step_said (SomeUnder s a b) x y z k h₁ h₂ = (all_both (role s) (concept a) h₁.0 (h₂ h₁.1), h₁.1, λ r. (head (concept b) [] r).0)
-  step_said (RoleUnder s t) x y z k h₁ h₂ = (all_one (role s) h₁.0, k, λ r. ((head (role t) [] r).0, h₁.1))
+      (all_one (Concept a) h₁, k, λ r. let p = head (Role s) (Concept b ∷ []) r in (p.0, (head (Concept b) [] p.1).0))
+  step_said (SomeUnder s a b) x y z k h₁ h₂ = (all_both (Role s) (Concept a) h₁.0 (h₂ h₁.1), h₁.1, λ r. (head (Concept b) [] r).0)
+  step_said (RoleUnder s t) x y z k h₁ h₂ = (all_one (Role s) h₁.0, k, λ r. ((head (Role t) [] r).0, h₁.1))
   step_said (ChainUnder s t u) x y z k h₁ h₂ =
       let p = h₂ h₁.1 in
-      (all_both (role s) (role t) h₁.0 p.0, h₁.1, λ r. ((head (role u) [] r).0, p.1))
-  step_said (ToItself s) x y z k h₁ h₂ = (refl, k, λ r. ((head (role s) [] r).0, k))
+      (all_both (Role s) (Role t) h₁.0 p.0, h₁.1, λ r. ((head (Role u) [] r).0, p.1))
+  step_said (ToItself s) x y z k h₁ h₂ = (refl, k, λ r. ((head (Role s) [] r).0, k))
   step_said NoLine x y z k h₁ h₂ = (refl, k, λ r. h₁)
 
 abouts : (l : Line) (x y z : ℕ) → (about (rule_of l x y z).one ≡ x) × (about (rule_of l x y z).gives ≡ x)
@@ -77,21 +79,21 @@ abouts NoLine x y z = (refl, refl)
 abbrev Going : List Line → (ℕ → Bool) → (Name → Bool) → Type 0
 Going ls S R = (i : ℕ) → i < length ls → S i ≡ true → all_in R (left_names (line_at ls i)) ≡ true → all_in R (right_names (line_at ls i)) ≡ true
 
-free_said : (R : Name → Bool) (n : ℕ) (f : Fact) → free n f ≡ true → R (concept (about f)) ≡ true → Said R f
+free_said : (R : Name → Bool) (n : ℕ) (f : Fact) → free n f ≡ true → R (Concept (about f)) ≡ true → Said R f
 unfolding free
-free_said R n (In x b) h k = subst (λ (c : ℕ). R (concept c) ≡ true) (eqb-true x b (both_true (eqb x b) (ltb x n) h).0) k
+free_said R n (In x b) h k = subst (λ (c : ℕ). R (Concept c) ≡ true) (eqb-true x b (both_true (eqb x b) (ltb x n) h).0) k
 free_said R n (Link x r y) h k = never h refl
 
 module _ (ls : List Line) (S : ℕ → Bool) (R : Name → Bool) (n : ℕ) (goes : Going ls S R) where
   -- WHAT IS DERIVED ABOUT A REACHED CONCEPT IS DERIVED IN THE MODULE, and its names are reached
-  derived_inside : {f : Fact} → Derived ls S n (free n) f → R (concept (about f)) ≡ true → Derived ls (module_in ls S R) n (free n) f × Said R f
+  derived_inside : {f : Fact} → Derived ls S n (free n) f → R (Concept (about f)) ≡ true → Derived ls (module_in ls S R) n (free n) f × Said R f
   unfolding module_in
   derived_inside {f} (given h) k = (given h, free_said R n f h k)
   derived_inside {f} (by s u d₁ d₂ e) k =
       let l = line_at ls s.place in
       let p = abouts l s.x s.y s.z in
-      let kx : R (concept s.x) ≡ true = subst (λ (c : ℕ). R (concept c) ≡ true) (ap about (sym e) ∙ p.1) k in
-      let k₁ : R (concept (about (premise_one_of ls s))) ≡ true = subst (λ (c : ℕ). R (concept c) ≡ true) (sym p.0) kx in
+      let kx : R (Concept s.x) ≡ true = subst (λ (c : ℕ). R (Concept c) ≡ true) (ap about (sym e) ∙ p.1) k in
+      let k₁ : R (Concept (about (premise_one_of ls s))) ≡ true = subst (λ (c : ℕ). R (Concept c) ≡ true) (sym p.0) kx in
       let r₁ = derived_inside d₁ k₁ in
       let t = step_said R l s.x s.y s.z kx r₁.1 (λ q. (derived_inside d₂ q).1) in (
         by s (usable_more ls S (module_in ls S R) n s (λ m. rw (m, t.0)) u) r₁.0 (derived_inside d₂ t.1).0 e,
@@ -107,7 +109,7 @@ module _ (ls : List Line) (S : ℕ → Bool) (R : Name → Bool) where
   unfolding module_in
   true_inside i h g = true_both (S i) (all_in R (left_names (line_at ls i))) h g
 
-module _ (ls : List Line) (n m a b : ℕ) (valid : Valid n m ls) (pos : 1 ≤ n) (ha : a < n) (R : Name → Bool) (start : R (concept a) ≡ true) where
+module _ (ls : List Line) (n m a b : ℕ) (valid : Valid n m ls) (pos : 1 ≤ n) (ha : a < n) (R : Name → Bool) (start : R (Concept a) ≡ true) where
   going_follows : (S : ℕ → Bool) → Going ls S R → Follows ls S a b → Follows ls (module_in ls S R) a b
   unfolding goal_at_end
   going_follows S goes f =

@@ -2,6 +2,7 @@
 use mathlib.Core.Path.{◌≡◌, refl, sym, ◌∙◌}
 use mathlib.Core.Bool.{Bool, true, false}
 use mathlib.Core.List.{List}
+use Rattle.std.specs.Prelude.{Ok}
 use Prim.Native.Nat.{ℕ, ◌≤◌, ◌<◌}
 use native.Mathlib.Decide.{dec_lt}
 use native.Mathlib.Omega.{arith}
@@ -14,9 +15,10 @@ use Rattle.pack.specs.Question.{counted}
 use Rattle.pack.specs.Record.{lines_of, Valid}
 use Rattle.pack.proofs.QuestionLaws.{Asked, asked, asked_valid}
 use Rattle.pack.proofs.RecordLaws.{lines_length, valid_most}
-use Rattle.reasons.specs.Reach.{Name, module_in, IsModule}
+use Rattle.reasons.specs.declared.names.Name.{Name}
+use Rattle.reasons.specs.Reach.{module_in, IsModule}
 use Rattle.reasons.specs.Computed.{reached, module_of, module_marks}
-use Rattle.reasons.specs.Names.{AdmittedOf}
+use Rattle.pack.specs.Computed.{check_question}
 use Rattle.reasons.proofs.ReachLaws.{module_is, module_one}
 
 module _ (ls : List Line) (S : ℕ → Bool) (R : Name → Bool) where
@@ -26,12 +28,12 @@ module _ (ls : List Line) (S : ℕ → Bool) (R : Name → Bool) where
   outside_unmarked i h = rw h
 
 -- of a question about a that is taken
-module _ (n m : ℕ) (s ws : List ℕ) (a : ℕ) (taken : AdmittedOf n m s ws a) where
-  pub asked_of : Asked n m s ws a taken.0 taken.1.0
-  asked_of = asked n m s ws a taken.0 taken.1.1
+module _ (n m : ℕ) (s ws : List ℕ) (a b : ℕ) {c : ℕ} (taken : check_question n m s ws a b ≡ Ok c) where
+  pub asked_of : Asked n m s ws a b c
+  asked_of = asked n m s ws a b taken
 
   pub lines_right : Valid n m (lines_of s)
-  lines_right = asked_valid n m s ws a taken.0 taken.1.1
+  lines_right = asked_valid n m s ws a b taken
 
   pub lines_widest : Valid 64 8 (lines_of s)
   lines_widest = valid_most asked_of.pack.n_most asked_of.pack.m_most (lines_of s) lines_right

@@ -2,34 +2,39 @@
 use mathlib.Core.Path.{◌≡◌, refl, sym, ap, ◌∙◌, subst}
 use mathlib.Core.Bool.{Bool, true, false, cond, not, ◌&&◌, ◌||◌, or-false}
 use mathlib.Core.List.{List, [], ◌∷◌}
-use Prim.Native.Nat.{ℕ, ◌+◌, ◌-◌, ◌*◌, ◌^◌, ◌≤◌, ◌<◌}
+use Rattle.std.specs.Prelude.{Option, None, Some, is_some}
+use Rattle.std.specs.Option.{option_or}
+use Prim.Native.Nat.{ℕ, ◌+◌, ◌^◌, ◌≤◌, ◌<◌}
 use native.Mathlib.Decide.{dec_lt, ℕ_discrete}
-use native.Mathlib.Nat.{mod-eq_of_lt}
 use native.Mathlib.Omega.{arith}
 use lib.Dec.{eqb}
 use lib.ListN.{length}
-use borrow.Author.Tests.{eqb-true, eq-eqb, lt-ltb, le-ltb, not-true, not-false}
+use borrow.Author.Tests.{eq-eqb, not-true, not-false}
 use Rattle.bits.specs.Bit.{has, with_bit}
-use Rattle.bits.specs.Sets.{lowest, count_to}
+use Rattle.bits.specs.Sets.{count_to}
 use Rattle.bits.proofs.Truth.{both_true, true_both, or_elim, or_left, or_right, never, alike}
 use Rattle.bits.proofs.BitLaws.{has_with, has_zero, has_high}
-use Rattle.bits.proofs.SetLaws.{Lowest, lowest_is, count_le, count_less}
-use Rattle.marks.specs.Marks.{marked}
+use Rattle.bits.proofs.FoundLaws.{Found, Missing}
+use Rattle.bits.proofs.SetLaws.{count_le, count_less}
 use Rattle.pack.specs.declared.line.Line.{Line}
 use Rattle.pack.specs.World.{line_at}
-use Rattle.reasons.specs.declared.reach.Names.{Names}
-use Rattle.reasons.specs.Reach.{Name, concept, role, left_names, right_names, all_in, Reaches, module_in, IsModule}
+use Rattle.reasons.specs.declared.names.Name.{Name}
+use Rattle.reasons.specs.declared.names.Name.TheVariants.{Concept, Role}
+use Rattle.reasons.specs.declared.names.Names.{Names}
+use Rattle.reasons.specs.declared.files.Files.{Files}
+use Rattle.reasons.specs.declared.reach.Reached.{Reached}
+use Rattle.reasons.specs.Reach.{left_names, right_names, all_in, Reaches, module_in, IsModule}
 use Rattle.reasons.specs.Computed.{same_name}
-use Rattle.reasons.specs.Names.{name_in, with_name, with_names, with_line, Inside, BothSides, number_of, numbered, waits_for, filed, Lacks, Filed, Walked, Fresh}
+use Rattle.reasons.specs.Names.{IsShort, name_in, no_names, with_name, with_names, with_line, Inside, BothSides, waits_for, filed, IsFiled, Lacks, Filed, Walked, Fresh}
 use Rattle.reasons.proofs.ReachLaws.{name_self, name_one}
 
 -- ONE NAME MORE: that name and those that were there
 with_name_lem : (ns : Names) (x y : Name) → name_in (with_name ns x) y ≡ (name_in ns y || same_name x y)
 unfolding same_name
-with_name_lem ns (concept a) (concept b) = has_with ns.concepts a b
-with_name_lem ns (concept a) (role s) = sym (or-false (has ns.roles s))
-with_name_lem ns (role r) (concept b) = sym (or-false (has ns.concepts b))
-with_name_lem ns (role r) (role s) = has_with ns.roles r s
+with_name_lem ns (Concept a) (Concept b) = has_with ns.concepts a b
+with_name_lem ns (Concept a) (Role s) = sym (or-false (has ns.roles s))
+with_name_lem ns (Role r) (Concept b) = sym (or-false (has ns.concepts b))
+with_name_lem ns (Role r) (Role s) = has_with ns.roles r s
 
 name_keeps : (ns : Names) (x : Name) → Inside (name_in ns) (name_in (with_name ns x))
 name_keeps ns x y h = with_name_lem ns x y ∙ or_left (name_in ns y) (same_name x y) h
@@ -85,294 +90,222 @@ line_least ns l Q f h = go (all_in (name_in ns) (left_names l)) refl
     go true e = names_least (right_names l) ns Q h (f (all_inside (name_in ns) Q h (left_names l) e))
     go false e = h
 
--- NUMBERS: every name has one below 128, and below 128 every number is a name's
-pub number_most : (x : Name) → number_of x < 128
-number_most (concept x) = omega arith
-number_most (role r) = omega arith
-
-pub numbered_concept : (k : ℕ) → k < 64 → numbered k ≡ concept k
-unfolding numbered
-numbered_concept k h = rw (lt-ltb k 64 h, numbered)
-
-pub numbered_role : (k : ℕ) → 64 ≤ k → numbered k ≡ role (k - 64)
-unfolding numbered
-numbered_role k h = rw (le-ltb k 64 h, numbered)
-
-number_back : (k : ℕ) → k < 128 → number_of (numbered k) ≡ k
-number_back k h = go (dec_lt k 64)
-  where
-    go : Dec (k < 64) → number_of (numbered k) ≡ k
-    go (yes l) = ap number_of (numbered_concept k l) ∙ mod-eq_of_lt l
-    go (no l) = ap number_of (numbered_role k (omega arith)) ∙ omega arith
-
 -- what a list of names waits for: none, or one that R lacks
 module _ (R : Name → Bool) where
-  list_most : (xs : List Name) → waits_for R xs ≤ 128
-  unfolding waits_for
-  list_most [] = omega arith
-  list_most (x ∷ xs) = go (R x) (list_most xs)
+  pub waits_all : (xs : List Name) → all_in R xs ≡ not (is_some (waits_for R xs))
+  unfolding all_in
+  waits_all [] = refl
+  waits_all (x ∷ xs) = go (R x) (waits_all xs)
     where
-      go : (t : Bool) → waits_for R xs ≤ 128 → (let later : ℕ = waits_for R xs in cond t later (number_of x)) ≤ 128
+      go : (t : Bool) → all_in R xs ≡ not (is_some (waits_for R xs)) → (t && all_in R xs) ≡ not (is_some (option_or (cond t None (Some x)) (waits_for R xs)))
       go true h = h
-      go false h = omega (arith, number_most x)
+      go false h = refl
 
-  pub waits_most : (xs : List Name) {x : ℕ} → x ≡ waits_for R xs → x ≤ 128
-  waits_most xs e = rw e (list_most xs)
-
-  pub all_there : (xs : List Name) → waits_for R xs ≡ 128 → all_in R xs ≡ true
-  unfolding waits_for all_in
-  all_there [] h = refl
-  all_there (x ∷ xs) h = go (R x) h (all_there xs)
+  one_lacks : (xs : List Name) (y : Name) → waits_for R xs ≡ Some y → Lacks R xs y
+  unfolding all_in
+  one_lacks [] y h = cc
+  one_lacks (x ∷ xs) y h = go (R x) refl h (one_lacks xs y)
     where
-      go : (t : Bool) → (let later : ℕ = waits_for R xs in cond t later (number_of x)) ≡ 128 → (waits_for R xs ≡ 128 → all_in R xs ≡ true) → (t && all_in R xs) ≡ true
-      go true g rest = rest g
-      go false g rest = absurd (omega (arith, number_most x))
-
-  one_lacks : (xs : List Name) → (waits_for R xs ≡ 128 → ⊥) → Lacks R xs (waits_for R xs)
-  unfolding waits_for all_in
-  one_lacks [] h = absurd (h refl)
-  one_lacks (x ∷ xs) h = go (R x) refl h (one_lacks xs)
-    where
-      go : (t : Bool) → R x ≡ t → ((let later : ℕ = waits_for R xs in cond t later (number_of x)) ≡ 128 → ⊥) → ((waits_for R xs ≡ 128 → ⊥) → Lacks R xs (waits_for R xs))
-          → Lacks R (x ∷ xs) (let later : ℕ = waits_for R xs in cond t later (number_of x))
-      go true e g rest = let l = rest g in record { name = l.name; number = l.number; lacks = l.lacks; needs = λ Q h. l.needs Q (both_true (Q x) (all_in Q xs) h).1 }
-      go false e g rest = record { name = x; number = refl; lacks = e; needs = λ Q h. (both_true (Q x) (all_in Q xs) h).0 }
-
-  -- so what waits for one is not there
-  pub waits_lacks : (xs : List Name) → (waits_for R xs ≡ 128 → ⊥) → all_in R xs ≡ false
-  waits_lacks xs h = go (all_in R xs) refl
-    where
-      go : (t : Bool) → all_in R xs ≡ t → t ≡ false
-      go true e = let l = one_lacks xs h in never (l.needs R e) l.lacks
-      go false e = refl
+      go : (t : Bool) → R x ≡ t → option_or (cond t None (Some x)) (waits_for R xs) ≡ Some y → (waits_for R xs ≡ Some y → Lacks R xs y) → Lacks R (x ∷ xs) y
+      go true e g rest = let l = rest g in record { lacks = l.lacks; needs = λ Q h. l.needs Q (both_true (Q x) (all_in Q xs) h).1 }
+      go false e g rest = let same : x ≡ y = cc in record { lacks = sym (ap R same) ∙ e; needs = λ Q h. sym (ap Q same) ∙ (both_true (Q x) (all_in Q xs) h).0 }
 
 -- what a larger set lacks
-lacks_less : (R R' : Name → Bool) → Inside R R' → (xs : List Name) (x : ℕ) → Lacks R' xs x → Lacks R xs x
-lacks_less R R' h xs x l = record { name = l.name; number = l.number; lacks = go (R l.name) refl; needs = l.needs }
+lacks_less : (R R' : Name → Bool) → Inside R R' → (xs : List Name) (x : Name) → Lacks R' xs x → Lacks R xs x
+lacks_less R R' h xs x l = record { lacks = go (R x) refl; needs = l.needs }
   where
-    go : (t : Bool) → R l.name ≡ t → t ≡ false
-    go true e = never (h l.name e) l.lacks
+    go : (t : Bool) → R x ≡ t → t ≡ false
+    go true e = never (h x e) l.lacks
     go false e = refl
 
-filed_less : (ls : List Line) (files : List ℕ) (R R' : Name → Bool) → Inside R R' → (i : ℕ) → Filed ls files R' i → Filed ls files R i
-filed_less ls files R R' h i f = record { number = f.number; there = f.there; waits = λ g. lacks_less R R' h (left_names (line_at ls i)) f.number (f.waits g) }
+filed_less : (ls : List Line) (files : Files) (R R' : Name → Bool) → Inside R R' → (i : ℕ) → Filed ls files R' i → Filed ls files R i
+filed_less ls files R R' h i f = record { under = f.under; there = f.there; waits = λ x g. lacks_less R R' h (left_names (line_at ls i)) x (f.waits x g) }
 
 both_inside : (R R' : Name → Bool) → Inside R R' → (l : Line) → BothSides R l → BothSides R' l
 both_inside R R' h l b = (all_inside R R' h (left_names l) b.0, all_inside R R' h (right_names l) b.1)
 
 -- A WALK, from one place to the next
-module _ (ls : List Line) (D : ℕ → Bool) (files : List ℕ) (R : Name → Bool) where
-  -- no place from i on and before j is to be visited
-  walked_on : (i j : ℕ) {files' : List ℕ} {R' : Name → Bool} → ((k : ℕ) → i ≤ k → k < j → D k ≡ false) → Walked ls D i files files' R R' → Walked ls D j files files' R R'
-  walked_on i j {files'} {R'} none p = record { keeps = p.keeps; least = p.least; stays = p.stays; comes = p.comes; placed = λ k l t d. go k l t d (dec_lt k i) }
-    where
-      go : (k : ℕ) → k < j → k < length ls → D k ≡ true → Dec (k < i) → Filed ls files' R k
-      go k l t d (yes h) = p.placed k h t d
-      go k l t d (no h) = never d (none k (omega arith) l)
+module _ (ls : List Line) (D : ℕ → Bool) (p : Reached) where
+  pub walked_start : Walked ls D 0 p p
+  walked_start = record { keeps = λ x h. h; least = λ a Q r h. h; stays = λ x i h. h; comes = λ x i h g. never h g; placed = λ i l. absurd (omega arith) }
 
-  pub walked_start : {j : ℕ} → Lowest D 0 1024 j → Walked ls D j files files R R
-  walked_start {j} low =
-      walked_on 0 j low.none
-      (record { keeps = λ x h. h; least = λ a Q r h. h; stays = λ x i h. h; comes = λ x i l h g. never h g; placed = λ i l. absurd (omega arith) })
+  -- no place from i on and before j is to be visited
+  pub walked_on : (i j : ℕ) {q : Reached} → ((k : ℕ) → i ≤ k → k < j → k < length ls → D k ≡ false) → Walked ls D i p q → Walked ls D j p q
+  walked_on i j {q} none w = record { keeps = w.keeps; least = w.least; stays = w.stays; comes = w.comes; placed = λ k l t d. go k l t d (dec_lt k i) }
+    where
+      go : (k : ℕ) → k < j → k < length ls → D k ≡ true → Dec (k < i) → Filed ls q.files (name_in p.names) k
+      go k l t d (yes h) = w.placed k h t d
+      go k l t d (no h) = never d (none k (omega arith) l t)
 
   -- the line at a place of D
-  module _ (i : ℕ) (ns : Names) (files' files'' : List ℕ) (p : Walked ls D i files files' R (name_in ns)) (there : i < length ls) (most : i < 1024) (here : D i ≡ true)
-      (on : (k : ℕ) → marked files'' k ≡ (marked files' k || eqb (waits_for (name_in ns) (left_names (line_at ls i)) * 1024 + i) k)) where
-    abbrev at : ℕ
-    at = waits_for (name_in ns) (left_names (line_at ls i))
+  module _ (i : ℕ) (q r : Reached) (w : Walked ls D i p q) (there : i < length ls) (here : D i ≡ true)
+      (names : r.names ≡ with_line q.names (line_at ls i)) (files : IsFiled q.files r.files (waits_for (name_in q.names) (left_names (line_at ls i))) i) where
+    abbrev at : Option Name
+    at = waits_for (name_in q.names) (left_names (line_at ls i))
 
-    abbrev R'' : Name → Bool
-    R'' = name_in (with_line ns (line_at ls i))
+    keeps : Inside (name_in q.names) (name_in r.names)
+    keeps = rw names (line_keeps q.names (line_at ls i))
 
-    line_stays : (x k : ℕ) → filed files' x k ≡ true → filed files'' x k ≡ true
-    line_stays x k h = on (x * 1024 + k) ∙ or_left (filed files' x k) (eqb (at * 1024 + i) (x * 1024 + k)) h
-
-    -- what comes is this place, under what it waits for
-    line_comes : (x k : ℕ) → k < 1024 → filed files'' x k ≡ true → filed files' x k ≡ false → (at ≡ x) × (i ≡ k)
-    line_comes x k l h g =
-        let e : at * 1024 + i ≡ x * 1024 + k = eqb-true (at * 1024 + i) (x * 1024 + k) (rw g at (sym (on (x * 1024 + k)) ∙ h)) in
-        (omega arith, omega arith)
-
-    line_both : at ≡ 128 → BothSides R'' (line_at ls i)
+    line_both : at ≡ None → BothSides (name_in r.names) (line_at ls i)
     line_both h =
-        let e = all_there (name_in ns) (left_names (line_at ls i)) h in
-        (all_inside (name_in ns) R'' (line_keeps ns (line_at ls i)) (left_names (line_at ls i)) e, line_goes ns (line_at ls i) e)
+        let e = waits_all (name_in q.names) (left_names (line_at ls i)) ∙ ap (λ (x : Option Name). not (is_some x)) h in
+        (all_inside (name_in q.names) (name_in r.names) keeps (left_names (line_at ls i)) e, rw names (line_goes q.names (line_at ls i) e))
 
-    line_filed : Filed ls files'' R i
+    line_filed : Filed ls r.files (name_in p.names) i
     line_filed = record {
-      number = at;
-      there = on (at * 1024 + i) ∙ or_right (filed files' at i) (eqb (at * 1024 + i) (at * 1024 + i)) (eq-eqb (at * 1024 + i) (at * 1024 + i) refl);
-      waits = λ h. lacks_less R (name_in ns) p.keeps (left_names (line_at ls i)) at (one_lacks (name_in ns) (left_names (line_at ls i)) h);
+      under = at;
+      there = files.there;
+      waits = λ x h. lacks_less (name_in p.names) (name_in q.names) w.keeps (left_names (line_at ls i)) x (one_lacks (name_in q.names) (left_names (line_at ls i)) x h);
     }
 
-    walked_line : Walked ls D (i + 1) files files'' R R''
-    walked_line = record {
-      keeps = λ x h. line_keeps ns (line_at ls i) x (p.keeps x h);
-      least = λ a Q r h. line_least ns (line_at ls i) Q (r.goes i there here) (p.least a Q r h);
-      stays = λ x k h. line_stays x k (p.stays x k h);
-      comes = λ x k l h g. comes x k l h g (filed files' x k) refl;
+    pub walked_next : Walked ls D (i + 1) p r
+    walked_next = record {
+      keeps = λ x h. keeps x (w.keeps x h);
+      least = λ a Q f h. rw names (line_least q.names (line_at ls i) Q (f.goes i there here) (w.least a Q f h));
+      stays = λ x k h. files.stays x k (w.stays x k h);
+      comes = λ x k h g. comes x k h g (filed q.files x k) refl;
       placed = λ k l t d. placed k l t d (ℕ_discrete i k);
     }
       where
-        comes : (x k : ℕ) → k < 1024 → filed files'' x k ≡ true → filed files x k ≡ false → (t : Bool) → filed files' x k ≡ t → (D k ≡ true) × (x ≡ 128 → BothSides R'' (line_at ls k))
-        comes x k l h g true e =
-            let q = p.comes x k l e g in
-            (q.0, λ z. both_inside (name_in ns) R'' (line_keeps ns (line_at ls i)) (line_at ls k) (q.1 z))
-        comes x k l h g false e =
-            let q = line_comes x k l h e in
-            (subst (λ (y : ℕ). D y ≡ true) q.1 here, λ z. subst (λ (y : ℕ). BothSides R'' (line_at ls y)) q.1 (line_both (q.0 ∙ z)))
+        comes : (x : Option Name) (k : ℕ) → filed r.files x k ≡ true → filed p.files x k ≡ false → (t : Bool) → filed q.files x k ≡ t → (D k ≡ true) × (x ≡ None → BothSides (name_in r.names) (line_at ls k))
+        comes x k h g true e =
+            let c = w.comes x k e g in
+            (c.0, λ z. both_inside (name_in q.names) (name_in r.names) keeps (line_at ls k) (c.1 z))
+        comes x k h g false e =
+            let c = files.comes x k h e in
+            (subst (λ (y : ℕ). D y ≡ true) c.1 here, λ z. subst (λ (y : ℕ). BothSides (name_in r.names) (line_at ls y)) c.1 (line_both (c.0 ∙ z)))
 
-        placed : (k : ℕ) → k < i + 1 → k < length ls → D k ≡ true → Dec (i ≡ k) → Filed ls files'' R k
-        placed k l t d (yes z) = subst (λ (y : ℕ). Filed ls files'' R y) z line_filed
+        placed : (k : ℕ) → k < i + 1 → k < length ls → D k ≡ true → Dec (i ≡ k) → Filed ls r.files (name_in p.names) k
+        placed k l t d (yes z) = subst (λ (y : ℕ). Filed ls r.files (name_in p.names) y) z line_filed
         placed k l t d (no z) =
-            let f = p.placed k (omega arith) t d in
-            record { number = f.number; there = line_stays f.number k f.there; waits = f.waits }
-
-  pub walked_next : (i : ℕ) (ns ms : Names) (files' files'' : List ℕ) → Walked ls D i files files' R (name_in ns) → i < length ls → i < 1024 → D i ≡ true
-      → ((k : ℕ) → marked files'' k ≡ (marked files' k || eqb (waits_for (name_in ns) (left_names (line_at ls i)) * 1024 + i) k)) → ms ≡ with_line ns (line_at ls i) → {j : ℕ} → Lowest D (i + 1) (1024 - (i + 1)) j → Walked ls D j files files'' R (name_in ms)
-  walked_next i ns ms files' files'' p t m d on e {j} low =
-      subst (λ (after : Names). Walked ls D j files files'' R (name_in after)) (sym e) (walked_on (i + 1) j low.none (walked_line i ns files' files'' p t m d on))
-
-  pub walked_end : (i : ℕ) {files' : List ℕ} {R' : Name → Bool} → Walked ls D i files files' R R' → length ls ≤ i → Walked ls D (length ls) files files' R R'
-  walked_end i p h = record { keeps = p.keeps; least = p.least; stays = p.stays; comes = p.comes; placed = λ k l. p.placed k (omega arith) }
+            let f = w.placed k (omega arith) t d in
+            record { under = f.under; there = files.stays f.under k f.there; waits = f.waits }
 
 -- how many names there are
 abbrev pub name_count : Names → ℕ
 name_count ns = count_to (has ns.concepts) 64 + count_to (has ns.roles) 64
 
+bits_rise : (w j : ℕ) → j < 64 → has w j ≡ false → count_to (has w) 64 < count_to (has (with_bit w j)) 64
+bits_rise w j l f =
+    count_less (has w) (has (with_bit w j)) (λ i g. has_with w j i ∙ or_left (has w i) (eqb j i) g) 64 j l f
+    (has_with w j j ∙ or_right (has w j) (eqb j j) (eq-eqb j j refl))
+
 pub count_most : (ns : Names) → name_count ns ≤ 128
 count_most ns = omega (arith, count_le (has ns.concepts) 64, count_le (has ns.roles) 64)
 
 -- A NAME THAT WAS NOT THERE MAKES THEM MORE
-pub number_rise : (ns : Names) (k : ℕ) → k < 128 → name_in ns (numbered k) ≡ false → name_count ns < name_count (with_name ns (numbered k))
-number_rise ns k h e = go (dec_lt k 64)
-  where
-    more : (w j : ℕ) → j < 64 → has w j ≡ false → count_to (has w) 64 < count_to (has (with_bit w j)) 64
-    more w j l f =
-        count_less (has w) (has (with_bit w j)) (λ i g. has_with w j i ∙ or_left (has w i) (eqb j i) g) 64 j l f
-        (has_with w j j ∙ or_right (has w j) (eqb j j) (eq-eqb j j refl))
+pub name_rise : (ns : Names) (x : Name) → IsShort x → name_in ns x ≡ false → name_count ns < name_count (with_name ns x)
+name_rise ns (Concept x) l e = omega (arith, bits_rise ns.concepts x l e)
+name_rise ns (Role r) l e = omega (arith, bits_rise ns.roles r l e)
 
-    go : Dec (k < 64) → name_count ns < name_count (with_name ns (numbered k))
-    go (yes l) = rw (numbered_concept k l) (omega (arith, more ns.concepts k l (rw (numbered_concept k l) at e)))
-    go (no l) = rw (numbered_role k (omega arith)) (omega (arith, more ns.roles (k - 64) (omega arith) (rw (numbered_role k (omega arith)) at e)))
+-- THE NEXT NAME: a bit of a word that the other lacks, or none
+module _ (w v u : ℕ) (bits : (j : ℕ) → has w j ≡ (has v j && not (has u j))) where
+  pub next_there : {x : ℕ} → Found (has w) 0 64 x → (has v x ≡ true) × (has u x ≡ false)
+  next_there {x} f = let p = both_true (has v x) (not (has u x)) (sym (bits x) ∙ f.here) in (p.0, not-true (has u x) p.1)
 
--- THE NEXT NAME: the lowest bit of a word that the other lacks, of the concepts and then of the roles
-module _ (w v u x : ℕ) (bits : (j : ℕ) → has w j ≡ (has v j && not (has u j))) (low : x ≡ lowest (has w) 0 64) where
-  found : Lowest (has w) 0 64 x
-  found = rw low (lowest_is (has w) 0 64)
-
-  pub next_most : x ≤ 64
-  next_most = found.within
-
-  next_there : x < 64 → (has v x ≡ true) × (has u x ≡ false)
-  next_there h = let p = both_true (has v x) (not (has u x)) (sym (bits x) ∙ found.found h) in (p.0, not-true (has u x) p.1)
-
-  next_none : v < 2 ^ 64 → x ≡ 64 → (j : ℕ) → has v j ≡ true → has u j ≡ true
-  next_none small e j h = go (dec_lt j 64)
+  pub next_none : v < 2 ^ 64 → Missing (has w) 0 64 → (j : ℕ) → has v j ≡ true → has u j ≡ true
+  next_none small m j h = go (dec_lt j 64)
     where
       go : Dec (j < 64) → has u j ≡ true
-      go (yes l) = not-false (has u j) (sym (ap (λ (t : Bool). t && not (has u j)) h) ∙ sym (bits j) ∙ found.none j (omega arith) (omega arith))
+      go (yes l) = not-false (has u j) (sym (ap (λ (t : Bool). t && not (has u j)) h) ∙ sym (bits j) ∙ m.none j (omega arith) l)
       go (no l) = never h (has_high 64 v j small (omega arith))
 
-module _ (names done : Names) (w x : ℕ) (bits : (j : ℕ) → has w j ≡ (has names.concepts j && not (has done.concepts j))) (low : x ≡ lowest (has w) 0 64) where
-  pub fresh_concept : x < 64 → Fresh names done x
-  fresh_concept h = record { most = omega arith; some = λ _. rw (numbered_concept x h) (next_there w names.concepts done.concepts x bits low h); none = λ e. absurd (omega arith) }
+module _ (names done : Names) where
+  pub fresh_some : (x : Name) → IsShort x → (name_in names x ≡ true) × (name_in done x ≡ false) → Fresh names done (Some x)
+  fresh_some x l h = record { some = λ y e. let same : x ≡ y = cc in subst (λ (z : Name). IsShort z × (name_in names z ≡ true) × (name_in done z ≡ false)) same (l, h.0, h.1); none = λ e. cc }
 
-  pub fresh_role : names.concepts < 2 ^ 64 → names.roles < 2 ^ 64 → 64 ≤ x → (w' y : ℕ) → ((j : ℕ) → has w' j ≡ (has names.roles j && not (has done.roles j))) → y ≡ lowest (has w') 0 64 → Fresh names done (64 + y)
-  fresh_role small small' past w' y bits' low' = record {
-    most = omega (arith, next_most w' names.roles done.roles y bits' low');
-    some = λ h. rw (numbered_role (64 + y) (omega arith), back) (next_there w' names.roles done.roles y bits' low' (omega arith));
-    none = inside;
-  }
+  pub fresh_none : ((j : ℕ) → has names.concepts j ≡ true → has done.concepts j ≡ true) → ((j : ℕ) → has names.roles j ≡ true → has done.roles j ≡ true) → Fresh names done None
+  fresh_none f g = record { some = λ y e. cc; none = λ e. inside }
     where
-      back : 64 + y - 64 ≡ y
-      back = omega arith
-
-      inside : 64 + y ≡ 128 → Inside (name_in names) (name_in done)
-      inside e (concept j) = next_none w names.concepts done.concepts x bits low small (omega (arith, next_most w names.concepts done.concepts x bits low)) j
-      inside e (role j) = next_none w' names.roles done.roles y bits' low' small' (omega arith) j
+      inside : Inside (name_in names) (name_in done)
+      inside (Concept x) = f x
+      inside (Role r) = g r
 
 -- NAME BY NAME FROM CONCEPT a ON: a is there, and nothing that a set which reaches can lack; the names that are done are
--- among them; what is filed is of S, under 128 with both sides there; and all of S is filed, under no name that is done
+-- among them; what is filed is of S, as reached with both sides there; and all of S is filed, under no name that is done
 module _ (ls : List Line) (S : ℕ → Bool) (a : ℕ) where
-  pub record Reaching (ns ds : Names) (files : List ℕ) : Type 0 where
-    pub start : name_in ns (concept a) ≡ true
-    pub least : (Q : Name → Bool) → Reaches ls S a Q → Inside (name_in ns) Q
-    pub inside : Inside (name_in ds) (name_in ns)
-    pub only : (x i : ℕ) → i < 1024 → filed files x i ≡ true → (S i ≡ true) × (x ≡ 128 → BothSides (name_in ns) (line_at ls i))
-    pub placed : (i : ℕ) → i < length ls → S i ≡ true → Filed ls files (name_in ds) i
+  pub record Reaching (p : Reached) (ds : Names) : Type 0 where
+    pub start : name_in p.names (Concept a) ≡ true
+    pub least : (Q : Name → Bool) → Reaches ls S a Q → Inside (name_in p.names) Q
+    pub inside : Inside (name_in ds) (name_in p.names)
+    pub only : (x : Option Name) (i : ℕ) → filed p.files x i ≡ true → (S i ≡ true) × (x ≡ None → BothSides (name_in p.names) (line_at ls i))
+    pub placed : (i : ℕ) → i < length ls → S i ≡ true → Filed ls p.files (name_in ds) i
+
+  none_there : (Q : Name → Bool) → Inside (name_in no_names) Q
+  none_there Q (Concept x) h = never h (has_zero x)
+  none_there Q (Role x) h = never h (has_zero x)
 
   -- the first walk, over all of S
-  pub reaching_start : (none one ns : Names) (files files' : List ℕ) → none.concepts ≡ 0 → none.roles ≡ 0 → one ≡ with_name none (concept a) → ((k : ℕ) → marked files k ≡ false) → Walked ls S (length ls) files files' (name_in one) (name_in ns) → Reaching ns none files'
-  reaching_start none one ns files files' c r e clear p = record {
-    start = p.keeps (concept a) (rw e (name_there none (concept a)));
-    least = λ Q q. p.least a Q q (rw e (name_least none (concept a) Q (empty Q) q.start));
-    inside = empty (name_in ns);
-    only = λ x i l h. p.comes x i l h (clear (x * 1024 + i));
-    placed = λ i l h. filed_less ls files' (name_in none) (name_in one) (empty (name_in one)) i (p.placed i l l h);
+  pub reaching_start : (p q : Reached) → p.names ≡ with_name no_names (Concept a) → ((x : Option Name) (i : ℕ) → filed p.files x i ≡ false) → Walked ls S (length ls) p q → Reaching q no_names
+  reaching_start p q e clear w = record {
+    start = w.keeps (Concept a) (rw e (name_there no_names (Concept a)));
+    least = λ Q r. w.least a Q r (rw e (name_least no_names (Concept a) Q (none_there Q) r.start));
+    inside = none_there (name_in q.names);
+    only = λ x i h. w.comes x i h (clear x i);
+    placed = λ i l h. filed_less ls q.files (name_in no_names) (name_in p.names) (none_there (name_in p.names)) i (w.placed i l l h);
   }
-    where
-      empty : (Q : Name → Bool) → Inside (name_in none) Q
-      empty Q (concept x) h = never h (ap (λ (w : ℕ). has w x) c ∙ has_zero x)
-      empty Q (role x) h = never h (ap (λ (w : ℕ). has w x) r ∙ has_zero x)
 
-  module _ (ns ds : Names) (files : List ℕ) (q : Reaching ns ds files) (most : length ls ≤ 1024) where
+  module _ (p : Reached) (ds : Names) (r : Reaching p ds) where
     -- a name is done: what waits for it is visited
-    pub reaching_next : (k : ℕ) → k < 128 → name_in ns (numbered k) ≡ true → (ms es : Names) → es ≡ with_name ds (numbered k) → (D : ℕ → Bool) → ((i : ℕ) → i < 1024 → D i ≡ filed files k i)
-        → (files' : List ℕ) → Walked ls D (length ls) files files' (name_in ns) (name_in ms) → Reaching ms es files'
-    reaching_next k few known ms es e D at files' p =
-        subst (λ (ds' : Names). Reaching ms ds' files') (sym e)
-        (record {
-          start = p.keeps (concept a) q.start;
-          least = λ Q r. p.least a Q (record { start = r.start; goes = λ i l h. r.goes i l (q.only k i (omega arith) (sym (at i (omega arith)) ∙ h)).0 }) (q.least Q r);
-          inside = λ x h. p.keeps x (among x h);
-          only = λ x i l h. only x i l h (filed files x i) refl;
-          placed = λ i l h. placed i l h (ℕ_discrete (q.placed i l h).number k);
-        })
+    pub reaching_next : (y : Name) → name_in p.names y ≡ true → (D : ℕ → Bool) → ((i : ℕ) → D i ≡ filed p.files (Some y) i)
+        → (q : Reached) → Walked ls D (length ls) p q → Reaching q (with_name ds y)
+    reaching_next y known D at q w =
+        record {
+          start = w.keeps (Concept a) r.start;
+          least = λ Q f. w.least a Q (record { start = f.start; goes = λ i l h. f.goes i l (r.only (Some y) i (sym (at i) ∙ h)).0 }) (r.least Q f);
+          inside = λ x h. w.keeps x (among x h);
+          only = λ x i h. only x i h (filed p.files x i) refl;
+          placed = λ i l h. let f = r.placed i l h in placed i l h f.under refl;
+        }
       where
-        y : Name
-        y = numbered k
+        among : Inside (name_in (with_name ds y)) (name_in p.names)
+        among = name_least ds y (name_in p.names) r.inside known
 
-        among : Inside (name_in (with_name ds y)) (name_in ns)
-        among = name_least ds y (name_in ns) q.inside known
+        only : (x : Option Name) (i : ℕ) → filed q.files x i ≡ true → (t : Bool) → filed p.files x i ≡ t → (S i ≡ true) × (x ≡ None → BothSides (name_in q.names) (line_at ls i))
+        only x i h true f = let o = r.only x i f in (o.0, λ z. both_inside (name_in p.names) (name_in q.names) w.keeps (line_at ls i) (o.1 z))
+        only x i h false f = let o = w.comes x i h f in ((r.only (Some y) i (sym (at i) ∙ o.0)).0, o.1)
 
-        only : (x i : ℕ) → i < 1024 → filed files' x i ≡ true → (t : Bool) → filed files x i ≡ t → (S i ≡ true) × (x ≡ 128 → BothSides (name_in ms) (line_at ls i))
-        only x i l h true f = let o = q.only x i l f in (o.0, λ z. both_inside (name_in ns) (name_in ms) p.keeps (line_at ls i) (o.1 z))
-        only x i l h false f = let o = p.comes x i l h f in ((q.only k i l (sym (at i l) ∙ o.0)).0, o.1)
-
-        placed : (i : ℕ) (l : i < length ls) (h : S i ≡ true) → Dec ((q.placed i l h).number ≡ k) → Filed ls files' (name_in (with_name ds y)) i
-        placed i l h (yes z) =
-            filed_less ls files' (name_in (with_name ds y)) (name_in ns) among i
-            (p.placed i l l (at i (omega arith) ∙ subst (λ (x : ℕ). filed files x i ≡ true) z (q.placed i l h).there))
-        placed i l h (no z) =
-            let f = q.placed i l h in
-            record { number = f.number; there = p.stays f.number i f.there; waits = λ g. still (f.waits g) }
+        -- as before, unless it waited for y
+        placed : (i : ℕ) (l : i < length ls) (h : S i ≡ true) (x : Option Name) → (r.placed i l h).under ≡ x → Filed ls q.files (name_in (with_name ds y)) i
+        placed i l h None e = let f = r.placed i l h in record { under = None; there = w.stays None i (subst (λ (x : Option Name). filed p.files x i ≡ true) e f.there); waits = λ x g. cc }
+        placed i l h (Some x) e = go (same_name y x) refl
           where
-            still : Lacks (name_in ds) (left_names (line_at ls i)) (q.placed i l h).number → Lacks (name_in (with_name ds y)) (left_names (line_at ls i)) (q.placed i l h).number
-            still w = record { name = w.name; number = w.number; lacks = with_name_lem ds y w.name ∙ rw w.lacks (other (same_name y w.name) refl); needs = w.needs }
-              where
-                other : (t : Bool) → same_name y w.name ≡ t → t ≡ false
-                other true s = absurd (z (sym w.number ∙ ap number_of (sym (name_one y w.name s)) ∙ number_back k few))
-                other false s = refl
+            there : filed p.files (Some x) i ≡ true
+            there = subst (λ (o : Option Name). filed p.files o i ≡ true) e (r.placed i l h).there
 
-    -- ALL DONE: the names are the smallest set, and what is filed under 128 is the module
-    pub reaching_end : Inside (name_in ns) (name_in ds) → (M : ℕ → Bool) → ((i : ℕ) → i < 1024 → M i ≡ filed files 128 i) → IsModule ls S a M
+            lacks : Lacks (name_in ds) (left_names (line_at ls i)) x
+            lacks = (r.placed i l h).waits x e
+
+            go : (t : Bool) → same_name y x ≡ t → Filed ls q.files (name_in (with_name ds y)) i
+            go true s =
+                filed_less ls q.files (name_in (with_name ds y)) (name_in p.names) among i
+                (w.placed i l l (at i ∙ ap (λ (z : Name). filed p.files (Some z) i) (name_one y x s) ∙ there))
+            go false s = record {
+              under = Some x;
+              there = w.stays (Some x) i there;
+              waits = λ z g.
+                  let e : x ≡ z = cc in
+                  subst (Lacks (name_in (with_name ds y)) (left_names (line_at ls i))) e (record { lacks = with_name_lem ds y x ∙ rw (lacks.lacks, s); needs = lacks.needs });
+            }
+
+    -- ALL DONE: the names are the smallest set, and what is filed as reached is the module
+    pub reaching_end : Inside (name_in p.names) (name_in ds) → (M : ℕ → Bool) → ((i : ℕ) → i < length ls → M i ≡ filed p.files None i) → IsModule ls S a M
     unfolding module_in
     reaching_end all M at = record {
-      names = name_in ns;
-      reached = record { reaches = record { start = q.start; goes = λ i l h g. ((q.only 128 i (omega arith) (taken i l h g)).1 refl).1 }; least = q.least };
-      places = λ i l. alike (M i) (S i && all_in (name_in ns) (left_names (line_at ls i))) (inside i l) (λ h. let p = both_true (S i) (all_in (name_in ns) (left_names (line_at ls i))) h in at i (omega arith) ∙ taken i l p.0 p.1);
+      names = name_in p.names;
+      reached = record { reaches = record { start = r.start; goes = λ i l h g. ((r.only None i (taken i l h g)).1 refl).1 }; least = r.least };
+      places = λ i l. alike (M i) (S i && all_in (name_in p.names) (left_names (line_at ls i))) (inside i l) (λ h. let c = both_true (S i) (all_in (name_in p.names) (left_names (line_at ls i))) h in at i l ∙ taken i l c.0 c.1);
     }
       where
         -- with its left side there it waits for none
-        taken : (i : ℕ) → i < length ls → S i ≡ true → all_in (name_in ns) (left_names (line_at ls i)) ≡ true → filed files 128 i ≡ true
-        taken i l h g = go (ℕ_discrete (q.placed i l h).number 128)
+        taken : (i : ℕ) → i < length ls → S i ≡ true → all_in (name_in p.names) (left_names (line_at ls i)) ≡ true → filed p.files None i ≡ true
+        taken i l h g = go (r.placed i l h).under refl
           where
-            go : Dec ((q.placed i l h).number ≡ 128) → filed files 128 i ≡ true
-            go (yes z) = subst (λ (x : ℕ). filed files x i ≡ true) z (q.placed i l h).there
-            go (no z) = let w = (q.placed i l h).waits z in never (all w.name (w.needs (name_in ns) g)) w.lacks
+            go : (x : Option Name) → (r.placed i l h).under ≡ x → filed p.files None i ≡ true
+            go None z = subst (λ (x : Option Name). filed p.files x i ≡ true) z (r.placed i l h).there
+            go (Some x) z = let k = (r.placed i l h).waits x z in never (all x (k.needs (name_in p.names) g)) k.lacks
 
-        inside : (i : ℕ) → i < length ls → M i ≡ true → (S i && all_in (name_in ns) (left_names (line_at ls i))) ≡ true
+        inside : (i : ℕ) → i < length ls → M i ≡ true → (S i && all_in (name_in p.names) (left_names (line_at ls i))) ≡ true
         inside i l h =
-            let o = q.only 128 i (omega arith) (sym (at i (omega arith)) ∙ h) in
-            true_both (S i) (all_in (name_in ns) (left_names (line_at ls i))) o.0 (o.1 refl).0
+            let o = r.only None i (sym (at i l) ∙ h) in
+            true_both (S i) (all_in (name_in p.names) (left_names (line_at ls i))) o.0 (o.1 refl).0

@@ -2,13 +2,13 @@
 use mathlib.Core.Path.{◌≡◌, refl, sym, ap, ◌∙◌}
 use mathlib.Core.Bool.{Bool, true, false, ◌&&◌, and-true}
 use mathlib.Core.List.{List, []}
+use Rattle.std.specs.Prelude.{Ok}
 use Prim.Native.Nat.{ℕ}
 use native.Mathlib.Omega.{arith}
 use lib.Dec.{eqb}
 use borrow.Author.Tests.{eqb-true, eqb-false, eq-eqb, ne_eqb}
 use Rattle.bits.proofs.Truth.{and_no}
 use Rattle.marks.specs.Marks.{marks_fit}
-use Rattle.pack.specs.declared.check.Checked.TheVariants.{Count}
 use Rattle.pack.specs.Computed.{check_pack, after_pack, check_question}
 use Rattle.pack.specs.Record.{record_count}
 use Rattle.pack.proofs.QuestionLaws.{asked}
@@ -30,9 +30,9 @@ module _ (n m : ℕ) (s ws : List ℕ) (a b words : ℕ) where
   out_unread d = reason_unread (and_no (marks_fit ws (record_count s)) (eqb words 16) (ne_eqb words 16 d))
 
   -- WHERE A QUESTION IS TAKEN there are 16 words, and it is the question of the marks in alone
-  pub reason_taken : {k : ℕ} → check_reason n m s ws a b words ≡ Count k → (words ≡ 16) × (check_question n m s ws a b ≡ Count k)
+  pub reason_taken : {k : ℕ} → check_reason n m s ws a b words ≡ Ok k → (words ≡ 16) × (check_question n m s ws a b ≡ Ok k)
   reason_taken {k} h = go (eqb words 16) refl
     where
-      go : (t : Bool) → eqb words 16 ≡ t → (words ≡ 16) × (check_question n m s ws a b ≡ Count k)
+      go : (t : Bool) → eqb words 16 ≡ t → (words ≡ 16) × (check_question n m s ws a b ≡ Ok k)
       go true e = let w : words ≡ 16 = eqb-true words 16 e in (w, sym (reason_asked w) ∙ h)
       go false e = let six = (asked n m s [] a b (sym (out_unread (eqb-false words 16 e)) ∙ h)).marks.sixteen in absurd (omega arith)

@@ -18,20 +18,22 @@ use Rattle.passes.specs.Saturation.{holds, attempt, runs}
 use Rattle.passes.specs.Stop.{Later}
 use Rattle.passes.proofs.LoopLaws.{loop_keeps, gate_keeps, gate_later, loop_later, Comes, comes_trans, gate_comes, loop_comes}
 use Rattle.passes.proofs.SaturationLaws.{Built, Closed, Sweep, attempt_later, attempt_built, built_within, end_built, end_closed}
-use Rattle.reasons.specs.Reach.{Name, concept, role, left_names, right_names, all_in, Reaches, IsReached, module_in, IsModule}
+use Rattle.reasons.specs.declared.names.Name.{Name}
+use Rattle.reasons.specs.declared.names.Name.TheVariants.{Concept, Role}
+use Rattle.reasons.specs.Reach.{left_names, right_names, all_in, Reaches, IsReached, module_in, IsModule}
 use Rattle.reasons.specs.Computed.{Arrow, same_name, name_at, reach, both_sides, reach_pass, reached, module_of}
 
 pub name_self : (x : Name) → same_name x x ≡ true
 unfolding same_name
-name_self (concept a) = eq-eqb a a refl
-name_self (role r) = eq-eqb r r refl
+name_self (Concept a) = eq-eqb a a refl
+name_self (Role r) = eq-eqb r r refl
 
 pub name_one : (x y : Name) → same_name x y ≡ true → x ≡ y
 unfolding same_name
-name_one (concept a) (concept b) h = ap concept (eqb-true a b h)
-name_one (concept a) (role s) h = never h refl
-name_one (role r) (concept b) h = never h refl
-name_one (role r) (role s) h = ap role (eqb-true r s h)
+name_one (Concept a) (Concept b) h = ap Concept (eqb-true a b h)
+name_one (Concept a) (Role s) h = never h refl
+name_one (Role r) (Concept b) h = never h refl
+name_one (Role r) (Role s) h = ap Role (eqb-true r s h)
 
 -- a side has two names at most
 left_two : (l : Line) → length (left_names l) ≤ 2
@@ -55,7 +57,7 @@ right_two (ToItself r) = omega arith
 right_two NoLine = omega arith
 
 -- so all of them are in R where the two that name_at gives are
-module _ (R : Name → Bool) (a : ℕ) (start : R (concept a) ≡ true) where
+module _ (R : Name → Bool) (a : ℕ) (start : R (Concept a) ≡ true) where
   two_all : (xs : List Name) → length xs ≤ 2 → R (name_at a xs 0) ≡ true → R (name_at a xs 1) ≡ true → all_in R xs ≡ true
   unfolding all_in
   two_all [] l h g = refl
@@ -77,11 +79,11 @@ pub record Marked (ls : List Line) (S : ℕ → Bool) (s : Arrow) : Type 0 where
 
 -- how many names of the question a set lacks
 lack_names : ℕ → ℕ → (Name → Bool) → ℕ
-lack_names n m T = count_to (λ x. not (T (concept x))) n + count_to (λ r. not (T (role r))) m
+lack_names n m T = count_to (λ x. not (T (Concept x))) n + count_to (λ r. not (T (Role r))) m
 
 abbrev Named : ℕ → ℕ → Name → Type 0
-Named n m (concept x) = x < n
-Named n m (role r) = r < m
+Named n m (Concept x) = x < n
+Named n m (Role r) = r < m
 
 lack_falls : (n m : ℕ) (T U : Name → Bool) → ((x : Name) → T x ≡ true → U x ≡ true) → (x : Name) → Named n m x → T x ≡ false → U x ≡ true → lack_names n m U < lack_names n m T
 unfolding lack_names
@@ -91,17 +93,17 @@ lack_falls n m T U up x i e g = go x i e g
     fewer f j = turn (T (f j)) (U (f j)) (up (f j))
 
     go : (x : Name) → Named n m x → T x ≡ false → U x ≡ true → lack_names n m U < lack_names n m T
-    go (concept x) i e g =
+    go (Concept x) i e g =
         omega (
           arith,
-          count_less (λ x. not (U (concept x))) (λ x. not (T (concept x))) (fewer concept) n x i (rw g) (rw e),
-          count_fewer (λ r. not (U (role r))) (λ r. not (T (role r))) (fewer role) m,
+          count_less (λ x. not (U (Concept x))) (λ x. not (T (Concept x))) (fewer Concept) n x i (rw g) (rw e),
+          count_fewer (λ r. not (U (Role r))) (λ r. not (T (Role r))) (fewer Role) m,
         )
-    go (role r) i e g =
+    go (Role r) i e g =
         omega (
           arith,
-          count_fewer (λ x. not (U (concept x))) (λ x. not (T (concept x))) (fewer concept) n,
-          count_less (λ r. not (U (role r))) (λ r. not (T (role r))) (fewer role) m r i (rw g) (rw e),
+          count_fewer (λ x. not (U (Concept x))) (λ x. not (T (Concept x))) (fewer Concept) n,
+          count_less (λ r. not (U (Role r))) (λ r. not (T (Role r))) (fewer Role) m r i (rw g) (rw e),
         )
 
 -- the right-side names of a valid line are of the question
@@ -125,7 +127,7 @@ right_named n m a h NoLine v j = absurd v
 
 module _ (ls : List Line) (S : ℕ → Bool) (a : ℕ) where
   abbrev Start : Name → Bool
-  Start = same_name (concept a)
+  Start = same_name (Concept a)
 
   abbrev BuiltArrows : List Arrow → Type 0
   BuiltArrows = Built (reach ls a) Start (Marked ls S)
@@ -166,7 +168,7 @@ module _ (ls : List Line) (S : ℕ → Bool) (a : ℕ) where
   -- the smallest set of names in the two ways of saying it
   reaches_closed : (R : Name → Bool) → Reaches ls S a R → Closed (reach ls a) Start (Marked ls S) R
   reaches_closed R r = record {
-    start = λ x h. ap R (sym (name_one (concept a) x h)) ∙ r.start;
+    start = λ x h. ap R (sym (name_one (Concept a) x h)) ∙ r.start;
     rules = λ s u h₁ h₂.
         let l = line_at ls s.place in
         all_two R a r.start (right_names l) s.side (r.goes s.place u.there u.marked (two_all R a r.start (left_names l) (left_two l) h₁ h₂));
@@ -174,7 +176,7 @@ module _ (ls : List Line) (S : ℕ → Bool) (a : ℕ) where
 
   closed_reaches : (R : Name → Bool) → Closed (reach ls a) Start (Marked ls S) R → Reaches ls S a R
   closed_reaches R c =
-      let start : R (concept a) ≡ true = c.start (concept a) (name_self (concept a)) in
+      let start : R (Concept a) ≡ true = c.start (Concept a) (name_self (Concept a)) in
       record {
         start = start;
         goes = λ i h g e.
@@ -185,7 +187,7 @@ module _ (ls : List Line) (S : ℕ → Bool) (a : ℕ) where
       }
 
 module _ (ls : List Line) (S : ℕ → Bool) (n m a : ℕ) (valid : Valid n m ls) (ha : a < n) where
-  sweep : Sweep (reach ls a) (same_name (concept a)) (Marked ls S) (reach_pass ls S a) (n + m)
+  sweep : Sweep (reach ls a) (same_name (Concept a)) (Marked ls S) (reach_pass ls S a) (n + m)
   unfolding lack_names
   sweep = record {
     law = record { self = name_self; only = name_one };
@@ -195,8 +197,8 @@ module _ (ls : List Line) (S : ℕ → Bool) (n m a : ℕ) (valid : Valid n m ls
     lacking = lack_names n m;
     falls = λ T U up s u. lack_falls n m T U up (name_at a (right_names (line_at ls s.place)) s.side) (right_named n m a ha (line_at ls s.place) (valid s.place u.there) s.side);
     start =
-        let st = holds (reach ls a) (same_name (concept a)) [] in
-        omega (arith, count_le (λ x. not (st (concept x))) n, count_le (λ r. not (st (role r))) m);
+        let st = holds (reach ls a) (same_name (Concept a)) [] in
+        omega (arith, count_le (λ x. not (st (Concept x))) n, count_le (λ r. not (st (Role r))) m);
   }
 
   -- WHAT SATURATION REACHES IS THE SMALLEST SET: sound and closed
@@ -204,7 +206,7 @@ module _ (ls : List Line) (S : ℕ → Bool) (n m a : ℕ) (valid : Valid n m ls
   unfolding reached
   reached_is =
       let pass = reach_pass ls S a in
-      let start = same_name (concept a) in
+      let start = same_name (Concept a) in
       record {
         reaches = closed_reaches ls S a (reached ls S n m a) (end_closed (reach ls a) start (Marked ls S) pass (n + m) sweep);
         least = λ R r. built_within (reach ls a) start (Marked ls S) sweep.law R (reaches_closed ls S a R r) (runs pass (suc (n + m)) []) (end_built (reach ls a) start (Marked ls S) pass (n + m) sweep);
@@ -234,7 +236,7 @@ module_one ls S a M M' p q i l =
 
 -- A MARKED LINE OF KIND 7 IS IN EVERY MODULE, and its role is reached from the start: its left side has no names
 pub itself_inside : (ls : List Line) (S : ℕ → Bool) (a : ℕ) (M : ℕ → Bool) (p : IsModule ls S a M) (i r : ℕ) → i < length ls → S i ≡ true → line_at ls i ≡ ToItself r
-    → (M i ≡ true) × (p.names (role r) ≡ true)
+    → (M i ≡ true) × (p.names (Role r) ≡ true)
 unfolding module_in all_in
 itself_inside ls S a M p i r l h e =
-    (p.places i l ∙ rw (h, e), (both_true (p.names (role r)) true (rw e at (p.reached.reaches.goes i l h (rw e)))).0)
+    (p.places i l ∙ rw (h, e), (both_true (p.names (Role r)) true (rw e at (p.reached.reaches.goes i l h (rw e)))).0)

@@ -1,12 +1,12 @@
 -- What inner functions promise to each other: where the next place is that is kept, and the set of a question that is taken.
 -- Only functions that docs/PROMISES.md lists as inner cite this page.
-use Rattle.std.specs.Prelude.{◌≡◌, ◌⊎◌, Bool, List, ℕ, ◌+◌, ◌≤◌, ◌<◌}
+use Rattle.std.specs.Prelude.{◌≡◌, ◌⊎◌, Bool, List, ℕ, ◌+◌, ◌≤◌, ◌<◌, Result, Ok, Err}
 use Rattle.marks.specs.Marks.{mark_count, cut_out}
 use Rattle.pack.specs.Question.{counted}
 use Rattle.pack.specs.Record.{lines_of}
 use Rattle.pack.specs.World.{Follows}
-use Rattle.reasons.specs.declared.set.SetAnswer.{SetAnswer}
-use Rattle.reasons.specs.declared.set.SetAnswer.TheVariants as answer
+use Rattle.reasons.specs.declared.set.SetError.{SetError}
+use Rattle.reasons.specs.declared.set.SetError.TheVariants.{NotFollows}
 use Rattle.reasons.specs.Computed.{set_marks}
 
 -- the next place that is kept lies from lo on and below hi: the places from i on can go together below lo, and cannot below hi
@@ -26,7 +26,7 @@ pub record Next (F : (ℕ → Bool) → Type 0) (P : ℕ → Bool) (i k : ℕ) :
 
 -- the set of a question that is taken: the goal follows, the set's words are written and counted; or it does not, 7, and
 -- the out marks stay
-abbrev pub SetTaken : ℕ → ℕ → List ℕ → List ℕ → ℕ → ℕ → List ℕ → List ℕ → SetAnswer → Type 0
+abbrev pub SetTaken : ℕ → ℕ → List ℕ → List ℕ → ℕ → ℕ → List ℕ → List ℕ → Result ℕ SetError → Type 0
 SetTaken n m s ws a b out after r =
-    (Follows (lines_of s) (counted s ws) a b × (r ≡ answer.Count (mark_count (set_marks n m s ws a b))) × (after ≡ set_marks n m s ws a b))
-    ⊎ ((Follows (lines_of s) (counted s ws) a b → ⊥) × (r ≡ answer.NotFollows) × (after ≡ out))
+    (Follows (lines_of s) (counted s ws) a b × (r ≡ Ok (mark_count (set_marks n m s ws a b))) × (after ≡ set_marks n m s ws a b))
+    ⊎ ((Follows (lines_of s) (counted s ws) a b → ⊥) × (r ≡ Err NotFollows) × (after ≡ out))

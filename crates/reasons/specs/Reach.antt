@@ -3,31 +3,28 @@ use Rattle.std.specs.Prelude.{◌≡◌, Bool, true, ◌&&◌, List, [], ◌∷�
 use Rattle.pack.specs.declared.line.Line.{Line}
 use Rattle.pack.specs.declared.line.Line.TheVariants.{Under, BothUnder, UnderSome, SomeUnder, RoleUnder, ChainUnder, ToItself, NoLine}
 use Rattle.pack.specs.World.{line_at}
-
--- a name of a question: a concept or a role, by its number
-pub data Name : Type 0 where
-  concept : ℕ → Name
-  role : ℕ → Name
+use Rattle.reasons.specs.declared.names.Name.{Name}
+use Rattle.reasons.specs.declared.names.Name.TheVariants.{Concept, Role}
 
 -- the names of the left side of a line, and of its right side
 abbrev pub left_names : Line → List Name
-left_names (Under a b) = concept a ∷ []
-left_names (BothUnder a₁ a₂ b) = concept a₁ ∷ concept a₂ ∷ []
-left_names (UnderSome a r b) = concept a ∷ []
-left_names (SomeUnder r a b) = role r ∷ concept a ∷ []
-left_names (RoleUnder r s) = role r ∷ []
-left_names (ChainUnder r s t) = role r ∷ role s ∷ []
+left_names (Under a b) = Concept a ∷ []
+left_names (BothUnder a₁ a₂ b) = Concept a₁ ∷ Concept a₂ ∷ []
+left_names (UnderSome a r b) = Concept a ∷ []
+left_names (SomeUnder r a b) = Role r ∷ Concept a ∷ []
+left_names (RoleUnder r s) = Role r ∷ []
+left_names (ChainUnder r s t) = Role r ∷ Role s ∷ []
 left_names (ToItself r) = []
 left_names NoLine = []
 
 abbrev pub right_names : Line → List Name
-right_names (Under a b) = concept b ∷ []
-right_names (BothUnder a₁ a₂ b) = concept b ∷ []
-right_names (UnderSome a r b) = role r ∷ concept b ∷ []
-right_names (SomeUnder r a b) = concept b ∷ []
-right_names (RoleUnder r s) = role s ∷ []
-right_names (ChainUnder r s t) = role t ∷ []
-right_names (ToItself r) = role r ∷ []
+right_names (Under a b) = Concept b ∷ []
+right_names (BothUnder a₁ a₂ b) = Concept b ∷ []
+right_names (UnderSome a r b) = Role r ∷ Concept b ∷ []
+right_names (SomeUnder r a b) = Concept b ∷ []
+right_names (RoleUnder r s) = Role s ∷ []
+right_names (ChainUnder r s t) = Role t ∷ []
+right_names (ToItself r) = Role r ∷ []
 right_names NoLine = []
 
 -- all names of a list are in R
@@ -37,7 +34,7 @@ all_in R (x ∷ xs) = R x && all_in R xs
 
 -- R holds a and, with all left-side names of a marked line, its right-side names
 pub record Reaches (ls : List Line) (S : ℕ → Bool) (a : ℕ) (R : Name → Bool) : Type 0 where
-  pub start : R (concept a) ≡ true
+  pub start : R (Concept a) ≡ true
   pub goes : (i : ℕ) → i < length ls → S i ≡ true → all_in R (left_names (line_at ls i)) ≡ true → all_in R (right_names (line_at ls i)) ≡ true
 
 -- the smallest such set of names

@@ -1,21 +1,25 @@
 -- What the printed set's call gives, and the out marks afterwards.
-use Rattle.std.specs.Prelude.{◌≡◌, Bool, List, [], ◌∷◌, ◌++◌, ℕ, ◌<◌, eqb, length}
-use Rattle.pack.specs.Answers.{refusal_told}
+use Rattle.std.specs.Prelude.{◌≡◌, Bool, List, [], ◌∷◌, ◌++◌, ℕ, ◌<◌, eqb, length, Result}
+use Rattle.pack.specs.Answers.{refusal_told, count_told, answer_told}
 use Rattle.pack.specs.Question.{counted}
 use Rattle.pack.specs.Record.{lines_of}
 use Rattle.pack.specs.Table.{Row, refuse, Given}
 use Rattle.pack.specs.World.{Follows}
 use Rattle.passes.specs.Passes.{finished}
-use Rattle.reasons.specs.declared.set.SetAnswer.{SetAnswer}
-use Rattle.reasons.specs.declared.set.SetAnswer.TheVariants as answer
+use Rattle.reasons.specs.declared.set.SetError.{SetError}
+use Rattle.reasons.specs.declared.set.SetError.TheVariants as refused
 use Rattle.reasons.specs.OutMarks.{reason_rows, MarksThe}
 use Rattle.reasons.specs.Printed.{IsPrinted}
 
-abbrev pub set_told : SetAnswer → ℕ × ℕ
-set_told (answer.Refused why) = refusal_told why
-set_told answer.TooLong = (6, 0)
-set_told answer.NotFollows = (7, 0)
-set_told (answer.Count k) = (0, k)
+-- 1 to 5, 6 TOO LONG, 7 NOT FOLLOWS
+abbrev pub set_error_told : SetError → ℕ × ℕ
+set_error_told (refused.Refused why) = refusal_told why
+set_error_told refused.TooLong = (6, 0)
+set_error_told refused.NotFollows = (7, 0)
+
+-- otherwise 0 with the count
+abbrev pub set_told : Result ℕ SetError → ℕ × ℕ
+set_told = answer_told count_told set_error_told
 
 -- words that mark the printed set, and how many records
 abbrev pub MarksSet : List ℕ → List ℕ → ℕ → ℕ → ℕ → List ℕ → Type 0

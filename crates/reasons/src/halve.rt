@@ -1,132 +1,110 @@
 // The printed set by halving: between two kept records the next one is found by halving what may go.
-ghost use Rattle.std.specs.Prelude.{◌≡◌, true, ℕ, ◌+◌, ◌-◌, ◌<◌, ◌≤◌, length};
-ghost use Rattle.bits.specs.Sets.{lowest};
+ghost use Rattle.std.specs.Prelude.{◌≡◌, ◌↔◌, true, false, ℕ, ◌+◌, ◌-◌, ◌<◌, ◌≤◌, length, IsTrue, IfSome, IfNone, unwrap_or};
+ghost use Rattle.bits.specs.Sets.{lowest, found_below};
 ghost use Rattle.marks.specs.Marks.{marked, marks_of, cut_out};
 ghost use Rattle.pack.specs.Question.{counted};
-ghost use Rattle.pack.specs.Computed.{Admitted};
 ghost use Rattle.pack.specs.Record.{lines_of};
 ghost use Rattle.pack.specs.World.{Follows};
-ghost use Rattle.passes.specs.Passes.{goal_at_end};
 ghost use Rattle.reasons.specs.Printed.{IsPicked};
-ghost use Rattle.reasons.specs.Inner.{Between, Next};
+ghost use Rattle.reasons.specs.Inner.{Next};
 
 use engine::verdict::goal_follows;
 use marks::change::cut_marks;
 use marks::look::next_marked;
+use pack::taken::Taken;
+use std::ops::Range;
 
-// Places from `from` on and below `to`.
-#[derive(Clone, Copy)]
-pub struct Range {
-    pub from: usize,
-    pub to: usize,
-}
-
-// Does the goal follow from the marked places but those from i on and below k?
-fn goes_without<'a>(
-    n: usize,
-    m: usize,
-    pack: &'a [u8],
-    marks: &'a [u64],
-    a: usize,
-    b: usize,
-    i: usize,
-    k: usize,
-) -> bool
-    requires { Admitted n m pack.now marks.now a b × (a ≡ b → ⊥) }
-    ensures { result ≡ goal_at_end (lines_of pack.now) (cut_out (counted pack.now marks.now) i k) n m a b }
+// A question that is taken, with some marks less.
+pub(crate) fn with_marks<'a, 'b: 'a>(q: &Taken<'b>, marks: &'a [u64; 16]) -> Taken<'a>
+    requires { (length marks.now ≡ 16) × ((i : ℕ) → marked marks.now i ≡ true → marked q.now.marks.now i ≡ true) }
+    ensures sizes { (result.n ≡ q.now.n) × (result.m ≡ q.now.m) }
+    ensures words { (result.pack.now ≡ q.now.pack.now) × (result.marks.now ≡ marks.now) }
+    ensures goal { (result.a ≡ q.now.a) × (result.b ≡ q.now.b) }
 {
-    let trial = cut_marks(marks, i, k);
-    goal_follows(n, m, pack, &trial, a, b)
-}
-
-// The marked place halfway from `from` to `to`: it goes on by one while another goes on by two.
-fn halfway(marks: &[u64], from: usize, to: usize) -> usize
-    requires { (to ≤ 1024) × (from < to) × (lowest (marked marks.now) (from + 1) (1024 - (from + 1)) < to) }
-    ensures { (from < result) × (result < to) }
-{
-    let mut half = next_marked(marks, from + 1);
-    let mut whole = next_marked(marks, next_marked(marks, half + 1) + 1);
-    while whole < to {
-        half = next_marked(marks, half + 1);
-        whole = next_marked(marks, next_marked(marks, whole + 1) + 1);
+    Taken {
+        n: q.n,
+        m: q.m,
+        pack: q.pack,
+        marks,
+        a: q.a,
+        b: q.b,
     }
-    half
 }
 
-// The half of a range that has the next kept place.
-fn half_of<'a>(
-    n: usize,
-    m: usize,
-    pack: &'a [u8],
-    marks: &'a [u64],
-    a: usize,
-    b: usize,
-    i: usize,
-    range: Range,
-) -> Range
-    requires { Admitted n m pack.now marks.now a b × (a ≡ b → ⊥) × Between (λ P. Follows (lines_of pack.now) P a b) (counted pack.now marks.now) i range.from range.to × (lowest (marked marks.now) (range.from + 1) (1024 - (range.from + 1)) < range.to) }
-    ensures less { result.to - result.from < range.to - range.from }
-    ensures between { Between (λ P. Follows (lines_of pack.now) P a b) (counted pack.now marks.now) i result.from result.to }
+// Does the goal follow from the marked places but those of a range?
+fn goes_without(q: &Taken, range: Range<usize>) -> bool
+    ensures { IsTrue result ↔ Follows (lines_of q.now.pack.now) (cut_out (counted q.now.pack.now q.now.marks.now) range.start range.end) q.now.a q.now.b }
 {
-    let from = range.from;
-    let to = range.to;
-    let middle = halfway(marks, from, to);
-    if goes_without(n, m, pack, marks, a, b, i, middle) {
-        return Range {
-            from: middle,
-            to: to,
+    let trial = cut_marks(q.marks, range.start, range.end);
+    goal_follows(&with_marks(q, &trial))
+}
+
+// The next marked place past `at` and below `end`.
+fn next_past(marks: &[u64], at: usize, end: usize) -> Option<usize>
+    requires { (at < end) × (end ≤ 1024) }
+    ensures { result ≡ found_below end (lowest (marked marks.now) (at + 1) (end - (at + 1))) }
+{
+    let k = next_marked(marks, at + 1)?;
+    if k < end {
+        return Some(k);
+    }
+    None
+}
+
+// Of the marked places inside a range the one halfway up: it goes on by one while another goes on by two.
+fn halfway(marks: &[u64], range: &Range<usize>) -> Option<usize>
+    requires { (range.now.start < range.now.end) × (range.now.end ≤ 1024) }
+    ensures some { IfSome result (λ k. (range.now.start < k) × (k < range.now.end)) }
+    ensures none { IfNone result ((j : ℕ) → range.now.start < j → j < range.now.end → marked marks.now j ≡ false) }
+{
+    let end = range.end;
+    let mut half = next_past(marks, range.start, end)?;
+    let mut whole = half;
+    while let Some(next) = next_past(marks, whole, end) {
+        whole = match next_past(marks, next, end) {
+            Some(next) => next,
+            None => return Some(half),
         };
+        half = next_past(marks, half, end)?;
     }
-    Range {
-        from: from,
-        to: middle,
-    }
+    Some(half)
 }
 
-// Of the marked places from i on, the first that cannot go together with those before it; 1,024 where all can go.
-fn next_kept<'a>(
-    n: usize,
-    m: usize,
-    pack: &'a [u8],
-    marks: &'a [u64],
-    a: usize,
-    b: usize,
-    i: usize,
-) -> usize
-    requires { Admitted n m pack.now marks.now a b × (a ≡ b → ⊥) × (i < 1024) × Follows (lines_of pack.now) (counted pack.now marks.now) a b }
-    ensures { Next (λ P. Follows (lines_of pack.now) P a b) (counted pack.now marks.now) i result }
+// Of the marked places from i on, the first that cannot go together with those before it, unless all can go.
+fn next_kept(q: &Taken, i: usize) -> Option<usize>
+    requires { (i < 1024) × Follows (lines_of q.now.pack.now) (counted q.now.pack.now q.now.marks.now) q.now.a q.now.b }
+    ensures { Next (λ P. Follows (lines_of q.now.pack.now) P q.now.a q.now.b) (counted q.now.pack.now q.now.marks.now) i (unwrap_or result 1024) }
 {
-    if goes_without(n, m, pack, marks, a, b, i, 1024) {
-        return 1024;
+    if goes_without(q, i..1024) {
+        return None;
     }
-    let mut range = Range { from: i, to: 1024 };
-    let mut second = next_marked(marks, i + 1);
-    while second < range.to {
-        range = half_of(n, m, pack, marks, a, b, i, range);
-        second = next_marked(marks, range.from + 1);
+    let mut range = i..1024;
+    while let Some(middle) = halfway(q.marks, &range) {
+        if goes_without(q, i..middle) {
+            range.start = middle;
+        } else {
+            range.end = middle;
+        }
     }
-    range.from
+    Some(range.start)
 }
 
-// Of marks from which the goal follows, those of the picked set.
-pub fn pick<'a>(
-    n: usize,
-    m: usize,
-    pack: &'a [u8],
-    given: [u64; 16],
-    a: usize,
-    b: usize,
-) -> [u64; 16]
-    requires { Admitted n m pack.now given a b × (a ≡ b → ⊥) × (given ≡ marks_of (marked given)) × Follows (lines_of pack.now) (counted pack.now given) a b }
-    ensures words { (result ≡ marks_of (marked result)) × ((i : ℕ) → marked result i ≡ true → marked given i ≡ true) }
-    ensures picked { IsPicked (length (lines_of pack.now)) (λ P. Follows (lines_of pack.now) P a b) (counted pack.now given) (counted pack.now result) }
+// Of the marks of a question whose goal follows, those of the picked set.
+pub fn pick(q: &Taken) -> [u64; 16]
+    requires { Follows (lines_of q.now.pack.now) (counted q.now.pack.now q.now.marks.now) q.now.a q.now.b }
+    ensures words { (result ≡ marks_of (marked result)) × ((i : ℕ) → marked result i ≡ true → marked q.now.marks.now i ≡ true) }
+    ensures picked { IsPicked (length (lines_of q.now.pack.now)) (λ P. Follows (lines_of q.now.pack.now) P q.now.a q.now.b) (counted q.now.pack.now q.now.marks.now) (counted q.now.pack.now result) }
 {
-    let mut rest = given;
-    let mut i = next_marked(&rest, 0);
-    while i < 1024 {
-        let k = next_kept(n, m, pack, &rest, a, b, i);
-        rest = cut_marks(&rest, i, k);
-        i = next_marked(&rest, k + 1);
+    let mut rest = cut_marks(q.marks, 0, 0);
+    let mut from = 0;
+    while let Some(i) = next_marked(&rest, from) {
+        match next_kept(&with_marks(q, &rest), i) {
+            Some(k) => {
+                rest = cut_marks(&rest, i, k);
+                from = k + 1;
+            }
+            None => return cut_marks(&rest, i, 1024),
+        }
     }
     rest
 }

@@ -1,106 +1,72 @@
 // The printed set: numbers 1 to 7 of document 01's table, else the set in the out marks and the number of its records.
-ghost use Rattle.std.specs.Prelude.{◌≡◌, true, false, length};
-ghost use Rattle.marks.specs.Marks.{mark_count};
-ghost use Rattle.pack.specs.Question.{counted};
-ghost use Rattle.pack.specs.Computed.{Admitted};
-ghost use Rattle.pack.specs.Record.{lines_of};
-ghost use Rattle.pack.specs.World.{Follows};
-ghost use Rattle.reasons.specs.Set.{set_told, GivesSet};
-ghost use Rattle.reasons.specs.Computed.{set_marks};
+ghost use Rattle.std.specs.Prelude.{◌≡◌, length};
+ghost use Rattle.reasons.specs.Set.{set_error_told, set_told, GivesSet};
 ghost use Rattle.reasons.specs.Inner.{SetTaken};
 
-use crate::halve::pick;
+use crate::halve::{pick, with_marks};
 use crate::module::module_of;
-use crate::out::check_reason;
+use crate::out::{give, take_reason};
 use engine::verdict::goal_follows;
-use marks::change::put_marks;
-use marks::look::count_marked;
-use pack::check::{Checked, Refusal};
+use pack::check::Refusal;
+use pack::question::Question;
+use pack::taken::Taken;
+use pack::told::Told;
 
-// What the printed set's call answers.
-#[derive(Clone, Copy)]
-pub enum SetAnswer {
+// Why the printed set's call gives no set.
+#[derive(Clone, Copy, Debug, PartialEq, Eq)]
+pub enum SetError {
     Refused(Refusal),
     TooLong,
     NotFollows,
-    Count(u32),
 }
 
-// The marks of the printed set of a goal that follows: picked from its module. For A equal to B no record is needed.
-fn set_of<'a>(n: usize, m: usize, pack: &'a [u8], marks: &'a [u64], a: usize, b: usize) -> [u64; 16]
-    requires { Admitted n m pack.now marks.now a b × Follows (lines_of pack.now) (counted pack.now marks.now) a b }
-    ensures { result ≡ set_marks n m pack.now marks.now a b }
-{
-    if a == b {
-        return [0u64; 16];
+impl From<Refusal> for SetError {
+    ghost use Rattle.reasons.specs.declared.set.SetError.TheVariants.{Refused};
+
+    ghost from_gives = { λ why e. e ≡ Refused why };
+
+    fn from(why: Refusal) -> SetError {
+        SetError::Refused(why)
     }
-    let inside = module_of(n, m, pack, marks, a);
-    pick(n, m, pack, inside, a, b)
 }
 
-// The printed set into the out marks, and how many records they mark.
-fn put_set<'a>(
-    n: usize,
-    m: usize,
-    pack: &'a [u8],
-    marks: &'a [u64],
-    a: usize,
-    b: usize,
-    out: &mut [u64],
-) -> SetAnswer
-    requires { Admitted n m pack.now marks.now a b × Follows (lines_of pack.now) (counted pack.now marks.now) a b × (length out.old ≡ 16) }
-    ensures { (result ≡ SetAnswer.Count (mark_count (set_marks n m pack.now marks.now a b))) × (out.new ≡ set_marks n m pack.now marks.now a b) }
-{
-    let words = set_of(n, m, pack, marks, a, b);
-    put_marks(&words, out);
-    SetAnswer::Count(count_marked(out))
-}
+impl Told for SetError {
+    ghost told = { set_error_told };
 
-// Does the goal of a question that is taken follow? A is under A always.
-fn goal_holds<'a>(n: usize, m: usize, pack: &'a [u8], marks: &'a [u64], a: usize, b: usize) -> bool
-    requires { Admitted n m pack.now marks.now a b }
-    ensures { (result ≡ true → Follows (lines_of pack.now) (counted pack.now marks.now) a b) × (result ≡ false → Follows (lines_of pack.now) (counted pack.now marks.now) a b → ⊥) }
-{
-    if a == b {
-        return true;
+    fn number(&self) -> u32 {
+        match self {
+            SetError::Refused(why) => why.number(),
+            SetError::TooLong => 6,
+            SetError::NotFollows => 7,
+        }
     }
-    goal_follows(n, m, pack, marks, a, b)
+
+    fn value(&self) -> u64 {
+        match self {
+            SetError::Refused(why) => why.value(),
+            SetError::TooLong | SetError::NotFollows => 0,
+        }
+    }
 }
 
-// The set of a question that is taken where the goal follows, else 7 and the out marks as they were. 6 is never: the passes add 36,800 facts at most.
-fn set_taken<'a>(
-    n: usize,
-    m: usize,
-    pack: &'a [u8],
-    marks: &'a [u64],
-    a: usize,
-    b: usize,
-    out: &mut [u64],
-) -> SetAnswer
-    requires { Admitted n m pack.now marks.now a b × (length out.old ≡ 16) }
-    ensures { SetTaken n m pack.now marks.now a b out.old out.new result }
+// The set where the goal follows, picked from the goal's module; else 7 and the out marks as they were. 6 is never: the passes add
+// 36,800 facts at most.
+fn set_taken(q: &Taken, out: &mut [u64]) -> Result<u32, SetError>
+    requires { length out.old ≡ 16 }
+    ensures { SetTaken q.now.n q.now.m q.now.pack.now q.now.marks.now q.now.a q.now.b out.old out.new result }
 {
-    if goal_holds(n, m, pack, marks, a, b) {
-        return put_set(n, m, pack, marks, a, b, out);
+    if !goal_follows(q) {
+        return Err(SetError::NotFollows);
     }
-    SetAnswer::NotFollows
+    let inside = module_of(q);
+    let words = pick(&with_marks(q, &inside));
+    Ok(give(&words, out))
 }
 
 // The printed set, for any input and any lent out marks.
-pub fn printed_set<'a>(
-    n: usize,
-    m: usize,
-    pack: &'a [u8],
-    marks: &'a [u64],
-    a: usize,
-    b: usize,
-    out: &mut [u64],
-) -> SetAnswer
-    ensures { GivesSet n m pack.now marks.now a b out.old out.new (set_told result).0 (set_told result).1 }
+pub fn printed_set(q: &Question, out: &mut [u64]) -> Result<u32, SetError>
+    ensures { GivesSet q.now.n q.now.m q.now.pack.now q.now.marks.now q.now.a q.now.b out.old out.new (set_told result).0 (set_told result).1 }
 {
-    let checked = check_reason(n, m, pack, marks, a, b, out.len());
-    match checked {
-        Checked::Refused(why) => SetAnswer::Refused(why),
-        Checked::Count(_) => set_taken(n, m, pack, marks, a, b, out),
-    }
+    let taken = take_reason(q, out.len())?;
+    set_taken(&taken, out)
 }

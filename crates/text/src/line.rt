@@ -9,14 +9,14 @@ use marks::look::{count_marked, places};
 
 // A text that grows in a lent buffer: it ends at `end`.
 #[derive(Drop)]
-pub struct Text<'b> {
+pub(crate) struct Text<'b> {
     out: &'b mut [u8; 8192],
-    pub end: usize,
+    pub(crate) end: usize,
 }
 
 impl<'b> Text<'b> {
     // No text yet, from the start of the buffer on.
-    pub fn new(out: &'b mut [u8; 8192]) -> Text<'b>
+    pub(crate) fn new(out: &'b mut [u8; 8192]) -> Text<'b>
         ensures buffer { result.out.now ≡ out.old }
         ensures start { result.end ≡ 0 }
         ensures same_buffer { result.out.ghost_name ≡ out.entry.ghost_name }
@@ -56,7 +56,7 @@ impl<'b> Text<'b> {
     }
 
     // A word and a number: up to 10 digits, and the newline.
-    pub fn number_line(&mut self, word: &[u8], k: u32)
+    pub(crate) fn number_line(&mut self, word: &[u8], k: u32)
         requires { self.old.end + length word.now + 11 ≤ 8192 }
         ensures { Added (number_line word.now k) self.old self.new }
     {
@@ -66,7 +66,7 @@ impl<'b> Text<'b> {
     }
 
     // A word, how many places are marked, and which: up to 4 digits, the colon, 4,010 bytes of places and the newline.
-    pub fn list_line(&mut self, word: &[u8], marks: &[u64])
+    pub(crate) fn list_line(&mut self, word: &[u8], marks: &[u64])
         requires { self.old.end + length word.now + 4016 ≤ 8192 }
         ensures { Added (list_line word.now (marked marks.now)) self.old self.new }
     {

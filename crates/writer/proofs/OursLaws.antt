@@ -9,11 +9,11 @@ use lib.Dec.{eqb, ltb, leb}
 use lib.ListN.{length, get_or, take}
 use lib.Pow.{pow_mono}
 use borrow.Author.Tests.{eq-eqb, le-leb, leb-true}
+use Rattle.std.specs.Prelude.{Ok}
 use Rattle.bits.specs.Bit.{has}
 use Rattle.bits.proofs.BitLaws.{has_high}
 use Rattle.bits.proofs.SetLaws.{some_false}
 use Rattle.bits.proofs.Truth.{true_both}
-use Rattle.pack.specs.declared.check.Checked.TheVariants as checked
 use Rattle.pack.specs.declared.line.Fact.TheVariants.{In}
 use Rattle.pack.specs.declared.line.Step.{Step}
 use Rattle.pack.specs.Bytes.{part}
@@ -24,11 +24,9 @@ use Rattle.pack.specs.World.{World, Is, Obeys}
 use Rattle.pack.proofs.Parts.{parts_length, parts_all}
 use Rattle.pack.proofs.RecordLaws.{lines_length}
 use Rattle.pack.proofs.QuestionLaws.{asked, asked_valid}
-use Rattle.yes.specs.declared.check.YesAnswer.TheVariants as yes
 use Rattle.yes.specs.YesSheet.{step_in, zeros_in, steps_of, known, good_over, good_at}
 use Rattle.yes.specs.Computed.{check_yes}
 use Rattle.yes.proofs.YesLaws.{good_accepts}
-use Rattle.no.specs.declared.check.NoAnswer.TheVariants as no
 use Rattle.no.specs.NoSheet.{row_at, forbidden, world_of}
 use Rattle.no.specs.Computed.{things_by, no_length_by, check_no}
 use Rattle.no.proofs.NoLaws.{world_accepts}
@@ -82,9 +80,9 @@ module _ (n m : ℕ) (s ws : List ℕ) (few : n ≤ 64) where
       no_things (fun_ext no_rows)
 
 -- a question that is taken
-module _ (n m : ℕ) (s ws : List ℕ) (a b : ℕ) {k : ℕ} (taken : check_question n m s ws a b ≡ checked.Count k) where
+module _ (n m : ℕ) (s ws : List ℕ) (a b : ℕ) {k : ℕ} (taken : check_question n m s ws a b ≡ Ok k) where
   -- OURS IS ACCEPTED: our yes sheet where the goal follows
-  pub yes_taken : goal_held n m s ws a b ≡ true → check_yes n m s ws a b (yes_bytes n m s ws a b) ≡ yes.Accepted
+  pub yes_taken : goal_held n m s ws a b ≡ true → check_yes n m s ws a b (yes_bytes n m s ws a b) ≡ Ok tt
   unfolding goal_held yes_bytes good_at
   yes_taken h =
       let ls = lines_of s in
@@ -112,7 +110,7 @@ module _ (n m : ℕ) (s ws : List ℕ) (a b : ℕ) {k : ℕ} (taken : check_ques
       (ap (λ (steps : List Step). known ls n steps (In a b)) all ∙ ours_known ls S n m a b (asked_valid n m s ws a b taken) (asked n m s ws a b taken).goal_a h)
 
   -- and our no sheet where it does not
-  pub no_taken : goal_held n m s ws a b ≡ false → check_no n m s ws a b (no_bytes n m s ws) ≡ no.Accepted
+  pub no_taken : goal_held n m s ws a b ≡ false → check_no n m s ws a b (no_bytes n m s ws) ≡ Ok tt
   unfolding goal_held
   no_taken h =
       let ls = lines_of s in

@@ -10,10 +10,9 @@ use lib.ListN.{length, take, drop}
 use lib.Seq.{take_at}
 use borrow.Author.Tests.{leb-true, leb-false}
 use Rattle.bits.proofs.Truth.{never, clash}
+use Rattle.std.specs.Prelude.{Result, Ok, Err}
 use Rattle.pack.specs.declared.check.Refusal.{Refusal}
 use Rattle.pack.specs.declared.check.Refusal.TheVariants.{Sizes, Pack, Record, Marks, Goal}
-use Rattle.pack.specs.declared.check.Checked.{Checked}
-use Rattle.pack.specs.declared.check.Checked.TheVariants as checked
 use Rattle.pack.specs.Question.{counted, question_rows, Taken}
 use Rattle.pack.specs.Computed.{check_question, refusal_number, refusal_place}
 use Rattle.pack.specs.Record.{lines_of, record_count}
@@ -21,10 +20,8 @@ use Rattle.pack.specs.Table.{Row, refuse, refuse_with, Given}
 use Rattle.pack.specs.World.{Follows}
 use Rattle.pack.proofs.GivenLaws.{given_one, given_zero, given_after, told, refusal_of}
 use Rattle.pack.proofs.Promises.{question_numbered, question_given, taken_admitted}
-use Rattle.yes.specs.declared.check.YesAnswer.TheVariants as yes
 use Rattle.yes.specs.Answers.{GivesYes}
 use Rattle.yes.proofs.Promises.{yes_told_lem}
-use Rattle.no.specs.declared.check.NoAnswer.TheVariants as no
 use Rattle.no.specs.Answers.{GivesNo}
 use Rattle.no.proofs.Promises.{no_told_lem}
 use Rattle.sheets.proofs.Both.{never_both}
@@ -33,31 +30,33 @@ use Rattle.passes.specs.Passes.{finished}
 use Rattle.engine.specs.Computed.{goal_held}
 use Rattle.engine.proofs.VerdictLaws.{finished_few, too_long_never}
 use Rattle.engine.proofs.VerdictRight.{held_right}
-use Rattle.writer.specs.declared.write.SheetAnswer.{SheetAnswer}
-use Rattle.writer.specs.declared.write.SheetAnswer.TheVariants as answer
+use Rattle.writer.specs.declared.answer.Sheet.{Sheet}
+use Rattle.writer.specs.declared.answer.Sheet.TheVariants as sheets
+use Rattle.writer.specs.declared.answer.SheetError.{SheetError}
+use Rattle.writer.specs.declared.answer.SheetError.TheVariants as refused
 use Rattle.writer.specs.Sheet.{sheet_told, yes_bytes, no_bytes, with_ours, sheet_rows, GivesSheet, SomeYes, SomeNo, Shows}
 use Rattle.writer.specs.Computed.{our_sheet, sheet_answer, sheet_after, sheet_out, ask_sheet, written_sheet, sheet_number, sheet_value}
 use Rattle.writer.proofs.SheetLaws.{yes_length, no_length}
 use Rattle.writer.proofs.OursLaws.{yes_taken, no_taken}
 
 -- an answer is told by its number and value
-pub sheet_told_by : (x y : SheetAnswer) → sheet_number x ≡ sheet_number y → sheet_value x ≡ sheet_value y → x ≡ y
+pub sheet_told_by : (x y : Result Sheet SheetError) → sheet_number x ≡ sheet_number y → sheet_value x ≡ sheet_value y → x ≡ y
 unfolding refusal_of
 sheet_told_by = told sheet_number sheet_value sheet_of back
   where
-    sheet_of : ℕ → ℕ → SheetAnswer
-    sheet_of k v = cond (eqb k 0) (cond (eqb (v % 2) 1) (answer.Follows (v / 2)) (answer.Not (v / 2))) (cond (eqb k 6) answer.TooLong (cond (eqb k 8) (answer.NoRoom v) (answer.Refused (refusal_of k v))))
+    sheet_of : ℕ → ℕ → Result Sheet SheetError
+    sheet_of k v = cond (eqb k 0) (cond (eqb (v % 2) 1) (Ok (sheets.Follows (v / 2))) (Ok (sheets.Not (v / 2)))) (cond (eqb k 6) (Err refused.TooLong) (cond (eqb k 8) (Err (refused.NoRoom v)) (Err (refused.Refused (refusal_of k v)))))
 
-    back : (x : SheetAnswer) → sheet_of (sheet_number x) (sheet_value x) ≡ x
-    back (answer.Refused Sizes) = refl
-    back (answer.Refused Pack) = refl
-    back (answer.Refused (Record i)) = refl
-    back (answer.Refused Marks) = refl
-    back (answer.Refused Goal) = refl
-    back answer.TooLong = refl
-    back (answer.NoRoom k) = refl
-    back (answer.Follows k) = let odd : (2 * k + 1) % 2 ≡ 1 = omega arith in let half : (2 * k + 1) / 2 ≡ k = omega arith in rw (odd, half)
-    back (answer.Not k) = let even : (2 * k) % 2 ≡ 0 = omega arith in let half : (2 * k) / 2 ≡ k = omega arith in rw (even, half)
+    back : (x : Result Sheet SheetError) → sheet_of (sheet_number x) (sheet_value x) ≡ x
+    back (Err (refused.Refused Sizes)) = refl
+    back (Err (refused.Refused Pack)) = refl
+    back (Err (refused.Refused (Record i))) = refl
+    back (Err (refused.Refused Marks)) = refl
+    back (Err (refused.Refused Goal)) = refl
+    back (Err refused.TooLong) = refl
+    back (Err (refused.NoRoom k)) = refl
+    back (Ok (sheets.Follows k)) = let odd : (2 * k + 1) % 2 ≡ 1 = omega arith in let half : (2 * k + 1) / 2 ≡ k = omega arith in rw (odd, half)
+    back (Ok (sheets.Not k)) = let even : (2 * k) % 2 ≡ 0 = omega arith in let half : (2 * k) / 2 ≡ k = omega arith in rw (even, half)
 
 module _ (n m : ℕ) (s ws : List ℕ) (a b : ℕ) where
   abbrev F : Type 0
@@ -73,12 +72,12 @@ module _ (n m : ℕ) (s ws : List ℕ) (a b : ℕ) where
   pub ours_yes : Taken n m s ws a b → F → GivesYes n m s ws a b (yes_bytes n m s ws a b) 0 0
   ours_yes t f =
       let q = (taken_admitted n m s ws a b t).1 in
-      yes_told_lem n m s ws a b (yes_bytes n m s ws a b) {r = yes.Accepted} (sym (yes_taken n m s ws a b q ((held_right n m s ws a b q).1 f)))
+      yes_told_lem n m s ws a b (yes_bytes n m s ws a b) {r = Ok tt} (sym (yes_taken n m s ws a b q ((held_right n m s ws a b q).1 f)))
 
   pub ours_no : Taken n m s ws a b → (F → ⊥) → GivesNo n m s ws a b (no_bytes n m s ws) 0 0
   ours_no t f =
       let q = (taken_admitted n m s ws a b t).1 in
-      no_told_lem n m s ws a b (no_bytes n m s ws) {r = no.Accepted} (sym (no_taken n m s ws a b q (by (goal_held n m s ws a b) refl (held_right n m s ws a b q).0)))
+      no_told_lem n m s ws a b (no_bytes n m s ws) {r = Ok tt} (sym (no_taken n m s ws a b q (by (goal_held n m s ws a b) refl (held_right n m s ws a b q).0)))
     where
       by : (u : Bool) → goal_held n m s ws a b ≡ u → (goal_held n m s ws a b ≡ true → F) → goal_held n m s ws a b ≡ false
       by true e right = absurd (f (right e))
@@ -118,9 +117,9 @@ module _ (n m : ℕ) (s ws : List ℕ) (a b : ℕ) (sheet : List ℕ) where
   abbrev room_rows : List Row
   room_rows = refuse_with 8 (F n m s ws a b × (length sheet < length yb)) (length yb) ∷ refuse_with 8 ((F n m s ws a b → ⊥) × (length sheet < length nb)) (length nb) ∷ []
 
-  behind : {k : ℕ} → check_question n m s ws a b ≡ checked.Count k → (after : List ℕ) (number value : ℕ) → Given (after ≡ sheet) room_rows (given after) number value → GivesSheet n m s ws a b sheet after number value
+  behind : {k : ℕ} → check_question n m s ws a b ≡ Ok k → (after : List ℕ) (number value : ℕ) → Given (after ≡ sheet) room_rows (given after) number value → GivesSheet n m s ws a b sheet after number value
   behind {k} e after number value g =
-      given_after (after ≡ sheet) (given after) {k = number} {v = value} (question_rows n m s ws a b) (refuse 6 (36800 < length (finished (lines_of s) (counted s ws) n m)) ∷ room_rows) (record_count s) question_numbered (checked.Count k)
+      given_after (after ≡ sheet) (given after) {k = number} {v = value} (question_rows n m s ws a b) (refuse 6 (36800 < length (finished (lines_of s) (counted s ws) n m)) ∷ room_rows) (record_count s) question_numbered (Ok k)
       (rw e at (question_given n m s ws a b))
       (λ why h. clash cc)
       (λ j h. inr ((λ _ _ q. omega (arith, q.0, finished_few n m s ws a b e)), g))
@@ -130,7 +129,7 @@ module _ (n m : ℕ) (s ws : List ℕ) (a b : ℕ) (sheet : List ℕ) where
   unfolding ask_sheet written_sheet
   sheet_given = go (check_question n m s ws a b) refl
     where
-      taken : {k : ℕ} → check_question n m s ws a b ≡ checked.Count k → (t room : Bool) → goal_held n m s ws a b ≡ t → leb (length (cond t yb nb)) (length sheet) ≡ room
+      taken : {k : ℕ} → check_question n m s ws a b ≡ Ok k → (t room : Bool) → goal_held n m s ws a b ≡ t → leb (length (cond t yb nb)) (length sheet) ≡ room
           → let r = sheet_answer t (cond t (steps n m s ws a b) (rows n m s ws a b)) room in let after = sheet_out r (cond t yb nb) sheet in GivesSheet n m s ws a b sheet after (sheet_number r) (sheet_value r)
       taken e true true f g =
           let yes = (held_right n m s ws a b e).0 f in
@@ -148,20 +147,20 @@ module _ (n m : ℕ) (s ws : List ℕ) (a b : ℕ) (sheet : List ℕ) where
           behind e sheet 8 (8 * rows n m s ws a b)
           (inr ((λ _ _ q. no q.0.0), inl (((no, leb-false (length nb) (length sheet) g), refl, sym (no_length n m s ws)), refl)))
 
-      go : (q : Checked) → check_question n m s ws a b ≡ q → let r = sheet_after q n m s ws a b sheet in GivesSheet n m s ws a b sheet (sheet_out r (our_sheet n m s ws a b) sheet) (sheet_number r) (sheet_value r)
-      go (checked.Refused why) e =
-          given_after (sheet ≡ sheet) (given sheet) {k = refusal_number why} {v = refusal_place why} (question_rows n m s ws a b) (refuse 6 (36800 < length (finished (lines_of s) (counted s ws) n m)) ∷ room_rows) (record_count s) question_numbered (checked.Refused why)
+      go : (q : Result ℕ Refusal) → check_question n m s ws a b ≡ q → let r = sheet_after q n m s ws a b sheet in GivesSheet n m s ws a b sheet (sheet_out r (our_sheet n m s ws a b) sheet) (sheet_number r) (sheet_value r)
+      go (Err why) e =
+          given_after (sheet ≡ sheet) (given sheet) {k = refusal_number why} {v = refusal_place why} (question_rows n m s ws a b) (refuse 6 (36800 < length (finished (lines_of s) (counted s ws) n m)) ∷ room_rows) (record_count s) question_numbered (Err why)
           (rw e at (question_given n m s ws a b))
           (λ w h. let same : why ≡ w = cc in (ap refusal_number same, ap refusal_place same, refl))
           (λ j h. clash cc)
-      go (checked.Count k) e = rw (too_long_never n m s ws a b e) (taken e (goal_held n m s ws a b) (leb (length (our_sheet n m s ws a b)) (length sheet)) refl refl)
+      go (Ok k) e = rw (too_long_never n m s ws a b e) (taken e (goal_held n m s ws a b) (leb (length (our_sheet n m s ws a b)) (length sheet)) refl refl)
 
-  pub sheet_told_lem : {r : SheetAnswer} {after : List ℕ} → (r ≡ ask_sheet n m s ws a b sheet) × (after ≡ written_sheet n m s ws a b sheet) → GivesSheet n m s ws a b sheet after (sheet_number r) (sheet_value r)
+  pub sheet_told_lem : {r : Result Sheet SheetError} {after : List ℕ} → (r ≡ ask_sheet n m s ws a b sheet) × (after ≡ written_sheet n m s ws a b sheet) → GivesSheet n m s ws a b sheet after (sheet_number r) (sheet_value r)
   sheet_told_lem p = rw (p.0, p.1) sheet_given
 
-  pub sheet_refused : {why : Refusal} → check_question n m s ws a b ≡ checked.Refused why → GivesSheet n m s ws a b sheet sheet (refusal_number why) (refusal_place why)
+  pub sheet_refused : {why : Refusal} → check_question n m s ws a b ≡ Err why → GivesSheet n m s ws a b sheet sheet (refusal_number why) (refusal_place why)
   unfolding ask_sheet written_sheet
-  sheet_refused {why} e = sheet_told_lem {r = answer.Refused why} {after = sheet} (rw e, rw e)
+  sheet_refused {why} e = sheet_told_lem {r = Err (refused.Refused why)} {after = sheet} (rw e, rw e)
 
   -- one number, one value and one later content are given
   pub sheet_same : {k v k' v' : ℕ} {after after' : List ℕ} → GivesSheet n m s ws a b sheet after k v → GivesSheet n m s ws a b sheet after' k' v' → (k ≡ k') × (v ≡ v') × (after ≡ after')
@@ -170,10 +169,10 @@ module _ (n m : ℕ) (s ws : List ℕ) (a b : ℕ) (sheet : List ℕ) where
       ⊎_elim (λ r. (e.0, r.0, r.1 ∙ sym r.2)) (λ r. let o = given_sheet_one r.0 r.1 in (e.0, o.0, o.1)) e.1
 
   -- NO SECOND RESULT, no second later content of the sheet
-  pub sheet_fixed : (r r' : SheetAnswer) (after after' : List ℕ) → GivesSheet n m s ws a b sheet after (sheet_told r).0 (sheet_told r).1 → GivesSheet n m s ws a b sheet after' (sheet_told r').0 (sheet_told r').1 → (r ≡ r') × (after ≡ after')
+  pub sheet_fixed : (r r' : Result Sheet SheetError) (after after' : List ℕ) → GivesSheet n m s ws a b sheet after (sheet_told r).0 (sheet_told r).1 → GivesSheet n m s ws a b sheet after' (sheet_told r').0 (sheet_told r').1 → (r ≡ r') × (after ≡ after')
   sheet_fixed r r' after after' p q = let e = sheet_same p q in (sheet_told_by r r' e.0 e.1, e.2)
 
-  pub sheet_is : {r : SheetAnswer} {after : List ℕ} → GivesSheet n m s ws a b sheet after (sheet_number r) (sheet_value r) → (r ≡ ask_sheet n m s ws a b sheet) × (after ≡ written_sheet n m s ws a b sheet)
+  pub sheet_is : {r : Result Sheet SheetError} {after : List ℕ} → GivesSheet n m s ws a b sheet after (sheet_number r) (sheet_value r) → (r ≡ ask_sheet n m s ws a b sheet) × (after ≡ written_sheet n m s ws a b sheet)
   sheet_is {r} {after} p = sheet_fixed r (ask_sheet n m s ws a b sheet) after (written_sheet n m s ws a b sheet) p sheet_given
 
   -- WHAT THE WRITER SAYS IS SO OF WHAT IT WROTE: so many steps or rows of the sheet afterwards are accepted

@@ -1,7 +1,7 @@
 -- Our sheets, what the sheet writer gives, and what the lent sheet holds afterwards.
-use Rattle.std.specs.Prelude.{◌≡◌, ◌⊎◌, ℕ, ◌+◌, ◌*◌, ◌<◌, length, take, drop}
+use Rattle.std.specs.Prelude.{◌≡◌, ◌⊎◌, ℕ, ◌+◌, ◌*◌, ◌<◌, length, take, drop, Result}
 use mathlib.Core.List.{List, [], ◌∷◌, ◌++◌, map, flatten}
-use Rattle.pack.specs.Answers.{refusal_told}
+use Rattle.pack.specs.Answers.{refusal_told, answer_told}
 use Rattle.pack.specs.Bytes.{words_bytes}
 use Rattle.pack.specs.Question.{counted}
 use Rattle.pack.specs.Record.{lines_of}
@@ -12,8 +12,10 @@ use Rattle.no.specs.Answers.{GivesNo}
 use Rattle.passes.specs.Ours.{our_steps, our_rows}
 use Rattle.sweep.specs.Writing.{step_bytes}
 use Rattle.engine.specs.Verdict.{verdict_rows}
-use Rattle.writer.specs.declared.write.SheetAnswer.{SheetAnswer}
-use Rattle.writer.specs.declared.write.SheetAnswer.TheVariants as answer
+use Rattle.writer.specs.declared.answer.Sheet.{Sheet}
+use Rattle.writer.specs.declared.answer.Sheet.TheVariants as sheets
+use Rattle.writer.specs.declared.answer.SheetError.{SheetError}
+use Rattle.writer.specs.declared.answer.SheetError.TheVariants as refused
 
 -- the bytes of our yes sheet and of our no sheet
 unfoldable pub yes_bytes : ℕ → ℕ → List ℕ → List ℕ → ℕ → ℕ → List ℕ
@@ -22,13 +24,19 @@ yes_bytes n m s ws a b = flatten (map step_bytes (our_steps (lines_of s) (counte
 unfoldable pub no_bytes : ℕ → ℕ → List ℕ → List ℕ → List ℕ
 no_bytes n m s ws = words_bytes (our_rows (lines_of s) (counted s ws) n m)
 
--- 8 with the bytes needed; otherwise twice the count of steps or rows, and 1 more for FOLLOWS
-abbrev pub sheet_told : SheetAnswer → ℕ × ℕ
-sheet_told (answer.Refused why) = refusal_told why
-sheet_told answer.TooLong = (6, 0)
-sheet_told (answer.NoRoom k) = (8, k)
-sheet_told (answer.Follows k) = (0, 2 * k + 1)
-sheet_told (answer.Not k) = (0, 2 * k)
+-- twice the count of steps or rows, and 1 more for FOLLOWS
+abbrev pub sheet_value_told : Sheet → ℕ × ℕ
+sheet_value_told (sheets.Follows k) = (0, 2 * k + 1)
+sheet_value_told (sheets.Not k) = (0, 2 * k)
+
+-- 1 to 5, 6 TOO LONG, 8 NO ROOM with the bytes needed
+abbrev pub sheet_error_told : SheetError → ℕ × ℕ
+sheet_error_told (refused.Refused why) = refusal_told why
+sheet_error_told refused.TooLong = (6, 0)
+sheet_error_told (refused.NoRoom k) = (8, k)
+
+abbrev pub sheet_told : Result Sheet SheetError → ℕ × ℕ
+sheet_told = answer_told sheet_value_told sheet_error_told
 
 -- a lent sheet with ours from its start, and the rest as it was
 abbrev pub with_ours : List ℕ → List ℕ → List ℕ

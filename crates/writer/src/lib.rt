@@ -1,4 +1,5 @@
 // The writer of our sheets.
 #![tactic(auto)]
 
+pub mod answer;
 pub mod write;

@@ -4,4 +4,4 @@ use Rattle.lines.proofs.PartsLaws.{set_told_lem}
 use Rattle.lines.proofs.parts.set_marks.Goals as goal
 
 pub returns : goal.returns
-returns c = set_told_lem _ _ _ _ _ _ c.requires refl c.printed_set.ensures
+returns c = set_told_lem _ _ _ _ _ _ c.requires.taken c.requires.follows refl c.printed_set.ensures

@@ -1,18 +1,16 @@
--- `sheet_parts`: answer by answer, what it tells is the number of our steps or rows (`parts_tell`).
+-- `sheet_parts`: what the writer answers tells the number of our steps or rows (`parts_tell`).
+use borrow.Author.Rules.{rules}
 use Rattle.lines.proofs.PartsLaws.{parts_tell}
 use Rattle.lines.proofs.parts.sheet_parts.Goals as goal
 
-pub returns-in-Refused : goal.returns-in-Refused
-returns-in-Refused c = parts_tell _ _ _ _ _ _ c.requires c.write_sheet-answer.ensures c.in-Refused.is
+pub returns-in-Ok-Follows : goal.returns-in-Ok-Follows
+returns-in-Ok-Follows c = parts_tell c.args.q.now c.write_sheet.result c.requires c.write_sheet.ensures (search rules)
 
-pub returns-in-TooLong : goal.returns-in-TooLong
-returns-in-TooLong c = parts_tell _ _ _ _ _ _ c.requires c.write_sheet-answer.ensures c.in-TooLong.is
+pub returns-in-Ok-Not : goal.returns-in-Ok-Not
+returns-in-Ok-Not c = parts_tell c.args.q.now c.write_sheet.result c.requires c.write_sheet.ensures (search rules)
 
-pub returns-in-NoRoom : goal.returns-in-NoRoom
-returns-in-NoRoom c = parts_tell _ _ _ _ _ _ c.requires c.write_sheet-answer.ensures c.in-NoRoom.is
+pub returns-in-Err-NoRoom : goal.returns-in-Err-NoRoom
+returns-in-Err-NoRoom c = parts_tell c.args.q.now c.write_sheet.result c.requires c.write_sheet.ensures (search rules)
 
-pub returns-in-Follows : goal.returns-in-Follows
-returns-in-Follows c = parts_tell _ _ _ _ _ _ c.requires c.write_sheet-answer.ensures c.in-Follows.is
-
-pub returns-in-Not : goal.returns-in-Not
-returns-in-Not c = parts_tell _ _ _ _ _ _ c.requires c.write_sheet-answer.ensures c.in-Not.is
+pub returns-in-Err : goal.returns-in-Err
+returns-in-Err c = parts_tell c.args.q.now c.write_sheet.result c.requires c.write_sheet.ensures (search rules)

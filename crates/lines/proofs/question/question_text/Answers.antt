@@ -1,25 +1,30 @@
--- `question_text`: answer by answer, what the verdict gives with it (`given_as`) is what is printed.
-use Rattle.lines.proofs.TakenLaws.{given_as}
-use Rattle.lines.proofs.PrintLaws.{writes_refusal, writes_too_long}
+-- `question_text`: where a verdict is given (`given_as`) the question is taken, so the parts are what the lines tell.
+use mathlib.Core.Path.{refl}
+use borrow.Author.Rules.{rules}
+use Rattle.std.proofs.Common.{Ok}
+use Rattle.engine.specs.declared.answer.Verdict.TheVariants.{Follows, Not}
+use Rattle.lines.proofs.TakenLaws.{given_as, given_taken, given_taken_first, given_follows, given_not}
+use Rattle.lines.proofs.PrintLaws.{writes_follows, writes_not}
 use Rattle.lines.proofs.question.question_text.Goals as goal
 
-pub follows_text-requires : goal.follows_text-requires
-follows_text-requires c =
-    let x = c.args in
-    given_as x.n x.m x.pack.now x.marks.now x.a x.b c.in-Follows.is c.verdict-answer.ensures
+pub module_marks-module-requires : goal.module_marks-module-requires
+module_marks-module-requires c = given_taken_first c.args.q.now (given_as c.args.q.now (Ok Follows) (search rules) c.verdict.ensures)
 
-pub not_text-requires : goal.not_text-requires
-not_text-requires c =
-    let x = c.args in
-    given_as x.n x.m x.pack.now x.marks.now x.a x.b c.in-Not.is c.verdict-answer.ensures
+pub set_marks-set-requires-clause-taken : goal.set_marks-set-requires-clause-taken
+set_marks-set-requires-clause-taken c = given_taken c.args.q.now (given_as c.args.q.now (Ok Follows) (search rules) c.verdict.ensures)
 
-pub returns-in-Refused : goal.returns-in-Refused
-returns-in-Refused c =
-    let x = c.args in
-    let given = given_as x.n x.m x.pack.now x.marks.now x.a x.b c.in-Refused.is c.verdict-answer.ensures in
-    writes_refusal x.n x.m x.pack.now x.marks.now x.a x.b c.in-Refused.why c.refusal_number.ensures c.refusal_place.ensures given c.refusal_text.ensures
+pub set_marks-set-requires-clause-follows : goal.set_marks-set-requires-clause-follows
+set_marks-set-requires-clause-follows c = given_follows c.args.q.now (given_as c.args.q.now (Ok Follows) (search rules) c.verdict.ensures) refl
 
-pub returns-in-TooLong : goal.returns-in-TooLong
-returns-in-TooLong c =
-    let x = c.args in
-    writes_too_long x.n x.m x.pack.now x.marks.now x.a x.b (given_as x.n x.m x.pack.now x.marks.now x.a x.b c.in-TooLong.is c.verdict-answer.ensures) c.refusal_text-in-TooLong.ensures
+pub sheet_parts-requires : goal.sheet_parts-requires
+sheet_parts-requires c = given_taken c.args.q.now (given_as c.args.q.now (Ok Follows) (search rules) c.verdict.ensures)
+
+pub returns-in-Ok-Follows : goal.returns-in-Ok-Follows
+returns-in-Ok-Follows c =
+    let g = given_as c.args.q.now (Ok Follows) (search rules) c.verdict.ensures in
+    writes_follows c.args.q.now g (c.sheet_parts.ensures.0 (given_follows c.args.q.now g refl)) c.module_marks-module.ensures c.set_marks-set.ensures c.write_follows.ensures
+
+pub returns-in-Ok-Not : goal.returns-in-Ok-Not
+returns-in-Ok-Not c =
+    let g = given_as c.args.q.now (Ok Not) (search rules) c.verdict.ensures in
+    writes_not c.args.q.now g (c.sheet_parts-in-Ok-Not.ensures.1 (given_not c.args.q.now g refl)) c.module_marks.ensures c.write_not.ensures

@@ -8,9 +8,6 @@ pub returns-in-Some : goal.returns-in-Some
 returns-in-Some c =
     gives_found (word_found c.args.marks.now _ c.loop-k.invariant c.mark_word.ensures c.saturating_sub.ensures (omega arith) (found c.in-Some.ensures))
 
-pub loop-k-init : goal.loop-k-init
-loop-k-init c = record { none = λ i h l. absurd (omega arith) }
-
 pub loop-k-preserved : goal.loop-k-preserved
 loop-k-preserved c = word_missing c.args.marks.now _ c.loop-k.invariant c.mark_word.ensures c.saturating_sub.ensures (missing c.in_default.ensures)
 

@@ -1,16 +1,13 @@
--- `next_kept`: all can go, or the range of the next one (`Between`) is halved to one marked place (`between_end`).
-use mathlib.Core.Path.{◌≡◌}
-use Prim.Native.Nat.{◌+◌, ◌-◌}
-use Rattle.bits.specs.Sets.{lowest}
-use Rattle.marks.specs.Marks.{marked}
+-- `next_kept`: the range has the next one (`Between`).
+use Prim.Native.Nat.{◌-◌}
 use Rattle.pack.specs.Record.{lines_of}
 use Rattle.pack.specs.World.{Follows}
 use Rattle.pack.specs.Question.{counted}
 use Rattle.reasons.specs.Inner.{Between}
 use Rattle.reasons.proofs.halve.next_kept.Given as goal
 
-abbrev pub invariant-loop-second : goal.invariant-loop-second
-invariant-loop-second l = Between (λ P. Follows (lines_of l.pack) P l.a l.b) (counted l.pack l.marks) l.i l.range.from l.range.to × (l.second ≡ lowest (marked l.marks) (l.range.from + 1) (1024 - (l.range.from + 1)))
+abbrev pub invariant-loop-middle : goal.invariant-loop-middle
+invariant-loop-middle l = Between (λ P. Follows (lines_of l.q.pack.now) P l.q.a l.q.b) (counted l.q.pack.now l.q.marks.now) l.i l.range.start l.range.end
 
-abbrev pub decreases-loop-second : goal.decreases-loop-second
-decreases-loop-second l = l.range.to - l.range.from
+abbrev pub decreases-loop-middle : goal.decreases-loop-middle
+decreases-loop-middle l = l.range.end - l.range.start

@@ -1,23 +1,20 @@
 -- `module_for`: the question's refusal, out marks as they were (`module_refused`), or the module (`module_taken`).
-use mathlib.Core.Path.{sym, ◌∙◌}
-use Rattle.reasons.proofs.OutLaws.{reason_taken}
+use mathlib.Core.Path.{◌∙◌}
+use Rattle.std.proofs.lemmas.Result.{err_from_is_err_and}
+use Rattle.reasons.proofs.OutLaws.{reason_asked}
 use Rattle.reasons.proofs.Promises.{module_taken, module_refused}
 use Rattle.reasons.proofs.module.module_for.Goals as goal
 
-pub put_module-requires : goal.put_module-requires
-put_module-requires c =
-    let a = c.args in
-    let h = sym c.check_reason-checked.ensures ∙ c.in-Count.is in
-    let taken = reason_taken _ _ _ a.marks.now _ _ _ h in ((a.a, (_, taken.1)), taken.0)
+pub returns-in_err-taken : goal.returns-in_err-taken
+returns-in_err-taken c =
+    let a = c.args.q.now in
+    let p = err_from_is_err_and c.from_residual.result c.from_residual.ensures.1 in
+    rw (p.1, p.2) (module_refused a.n a.m a.pack.now a.marks.now a.a c.args.out.now c.in_err-taken.ensures.refused)
 
-pub returns-in-Refused : goal.returns-in-Refused
-returns-in-Refused c =
-    let a = c.args in
-    module_refused a.n a.m a.pack.now a.marks.now a.a a.out.now {why = c.in-Refused.why} (sym c.check_reason-checked.ensures ∙ c.in-Refused.is)
-
-pub returns-in-Count : goal.returns-in-Count
-returns-in-Count c =
-    let a = c.args in
-    let put = c.put_module.ensures in
-    let e = sym c.check_reason-checked.ensures ∙ c.in-Count.is in
-    rw put.0 (module_taken a.n a.m a.pack.now a.marks.now a.a a.out.now e put.1)
+pub returns : goal.returns
+returns c =
+    let a = c.args.q.now in
+    let same = c.in_ok-taken.ensures.same in
+    let taken = rw (same.0, same.1, same.2, same.3, same.4, same.5) at c.in_ok-taken.taken.admitted in
+    let words = rw (same.0, same.1, same.2, same.3, same.4) at c.module_of.ensures in
+    rw (c.give.ensures.0, words) (module_taken a.n a.m a.pack.now a.marks.now a.a c.args.out.now (reason_asked _ _ _ _ _ _ _ same.6 ∙ taken) (c.give.ensures.1 ∙ words))

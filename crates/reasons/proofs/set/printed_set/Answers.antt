@@ -1,22 +1,19 @@
 -- `printed_set`: the question's refusal (`set_refused`), or what the verdict lets be written (`set_taken`).
-use mathlib.Core.Path.{sym, ◌∙◌}
-use Rattle.reasons.proofs.OutLaws.{reason_taken}
+use mathlib.Core.Path.{◌∙◌}
+use Rattle.std.proofs.lemmas.Result.{err_from_is_err_and}
+use Rattle.reasons.proofs.OutLaws.{reason_asked}
 use Rattle.reasons.proofs.Promises.{set_refused, set_taken}
 use Rattle.reasons.proofs.set.printed_set.Goals as goal
 
-pub set_taken-requires : goal.set_taken-requires
-set_taken-requires c =
-    let a = c.args in
-    let h = sym c.check_reason-checked.ensures ∙ c.in-Count.is in
-    let taken = reason_taken _ _ _ a.marks.now _ _ _ h in ((_, taken.1), taken.0)
+pub returns-in_err-taken : goal.returns-in_err-taken
+returns-in_err-taken c =
+    let a = c.args.q.now in
+    let p = err_from_is_err_and c.from_residual.result c.from_residual.ensures.1 in
+    rw (p.1, p.2) (set_refused a.n a.m a.pack.now a.marks.now a.a a.b c.args.out.now c.in_err-taken.ensures.refused)
 
-pub returns-in-Refused : goal.returns-in-Refused
-returns-in-Refused c =
-    let a = c.args in
-    set_refused a.n a.m a.pack.now a.marks.now a.a a.b a.out.now {why = c.in-Refused.why} (sym c.check_reason-checked.ensures ∙ c.in-Refused.is)
-
-pub returns-in-Count : goal.returns-in-Count
-returns-in-Count c =
-    let a = c.args in
-    let e = sym c.check_reason-checked.ensures ∙ c.in-Count.is in
-    set_taken a.n a.m a.pack.now a.marks.now a.a a.b a.out.now e c.set_taken.result c.set_taken.ensures
+pub returns : goal.returns
+returns c =
+    let a = c.args.q.now in
+    let same = c.in_ok-taken.ensures.same in
+    let taken = rw (same.0, same.1, same.2, same.3, same.4, same.5) at c.in_ok-taken.taken.admitted in
+    set_taken a.n a.m a.pack.now a.marks.now a.a a.b c.args.out.now (reason_asked _ _ _ _ _ _ _ same.6 ∙ taken) c.set_taken.result (rw (same.0, same.1, same.2, same.3, same.4, same.5) at c.set_taken.ensures)

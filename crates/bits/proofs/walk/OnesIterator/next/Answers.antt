@@ -1,11 +1,7 @@
--- `next` of `Ones`: `next_bit` gives the step; a bit given is at or past `from`, so that fewer are left past it.
-use mathlib.Core.Path.{refl}
+-- `next` of `Ones`: a bit given is at or past `from`, so that fewer are left past it.
 use native.Mathlib.Omega.{arith}
 use Rattle.bits.proofs.FoundLaws.{found}
 use Rattle.bits.proofs.walk.OnesIterator.next.Goals as goal
-
-pub returns-clause-steps : goal.returns-clause-steps
-returns-clause-steps c = record { gives = c.in_ok-j.ensures; keeps = refl; goes_on = refl }
 
 pub returns-clause-goes : goal.returns-clause-goes
 returns-clause-goes c =

@@ -1,11 +1,7 @@
--- `next` of `Places`: `next_marked` gives the step; a place given is at or past `from`, so that fewer are left past it.
-use mathlib.Core.Path.{refl}
+-- `next` of `Places`: a place given is at or past `from`, so that fewer are left past it.
 use native.Mathlib.Omega.{arith}
 use Rattle.bits.proofs.FoundLaws.{found}
 use Rattle.marks.proofs.walk.PlacesIterator.next.Goals as goal
-
-pub returns-clause-steps : goal.returns-clause-steps
-returns-clause-steps c = record { gives = c.in_ok-i.ensures; keeps = refl; goes_on = refl }
 
 pub returns-clause-goes : goal.returns-clause-goes
 returns-clause-goes c =

@@ -1,44 +1,25 @@
--- `chain_at`: the set bits of the one row are things (`link_below`); `all` over them tests each as the definition does
--- (`list_filter`, `list_every`), over the 64 bits or the k things (`every_things`).
-use mathlib.Core.Path.{◌≡◌, ◌∙◌}
-use mathlib.Core.Bool.{Bool, true}
-use Prim.Native.Nat.{ℕ, ◌+◌, ◌*◌, ◌<◌}
-use native.Mathlib.Omega.{arith}
-use borrow.Author.Tests.{tests}
-use Rattle.std.proofs.Common.{rules}
-use Rattle.std.proofs.lemmas.Iterator.Search.{all_from_yields_List}
-use Rattle.bits.specs.Bit.{has}
-use Rattle.bits.specs.Sets.{every}
-use Rattle.bits.specs.Walk.{walk_left}
-use Rattle.std.specs.Prelude.{filter}
-use Rattle.std.specs.List.{range_with_len, list_all}
-use Rattle.pack.proofs.WorldLaws.{true_implies}
-use Rattle.bits.proofs.WalkLaws.{walk_list}
-use Rattle.pack.specs.Computed.{implies}
-use Rattle.no.specs.NoSheet.{row_at}
-use Rattle.no.proofs.ThingLaws.{list_filter, list_every, every_things, walk_serves}
+-- `chain_at`: a walk over the things that x is linked to by r, bit after bit taken off: those that are gone are okay
+-- (`Walked`); one that is not ends it (`walk_fails`), and past the last all are (`walk_end`).
+use mathlib.Core.Path.{sym, ◌∙◌}
+use Rattle.bits.proofs.FoundLaws.{found, missing}
 use Rattle.no.proofs.WorldRows.{link_below}
+use Rattle.no.proofs.ThingLaws.{walk_less, walk_end, walk_fails}
 use Rattle.no.proofs.world.World.chain_at.Goals as goal
 
-pub all-requires-clause-callable : goal.all-requires-clause-callable
-all-requires-clause-callable c =
-    let a = c.args in
-    let w = a.self.now in
-    walk_serves 64 has (λ s. s.word) (λ s. s.from) _ _ _ _ (λ p x q h. search rules)
-    (λ x l b.
-    let bit : has c.ones.result.word x ≡ true = b in
-    let below : x < w.things = link_below _ _ a.r a.x x c.requires.0 c.requires.3 l (rw (c.ones.ensures, c.links_of.ensures) at bit) in
-    search rules)
+pub links_of-requires : goal.links_of-requires
+links_of-requires c =
+    let t = found c.in-Some.ensures in
+    (c.requires.1, link_below _ _ c.args.r c.args.x c.in-Some.y c.requires.0 c.requires.3 t.there (c.loop-y.invariant.set c.in-Some.y t.here))
+
+pub returns-then-not-row_inside : goal.returns-then-not-row_inside
+returns-then-not-row_inside c =
+    let t = found c.in-Some.ensures in
+    let linked = c.loop-y.invariant.set c.in-Some.y t.here in
+    let told = rw (c.links_of.ensures, c.links_of-whole.ensures) at c.row_inside.ensures in
+    walk_fails _ _ _ c.in-Some.y (link_below _ _ c.args.r c.args.x c.in-Some.y c.requires.0 c.requires.3 t.there linked) linked (sym told ∙ c.if-not-row_inside.true)
+
+pub loop-y-smaller : goal.loop-y-smaller
+loop-y-smaller c = walk_less c.loop-y.rest _ c.without_lowest-rest.ensures (found c.in-Some.ensures)
 
 pub returns : goal.returns
-returns c =
-    let a = c.args in
-    let w = a.self.now in
-    let k = w.things in
-    let first : ℕ → Bool = has (row_at w.sheet.now (k + (a.r * k + a.x))) in
-    let test : ℕ → Bool = λ y. every 64 (λ z. implies (has (row_at w.sheet.now (k + (a.s * k + y))) z) (has (row_at w.sheet.now (k + (a.t * k + a.x))) z)) in
-    let told : c.all.result ≡ list_all test (walk_left 64 has (λ s. s.word) (λ s. s.from) c.ones.result) =
-    all_from_yields_List test _ _ _ c.all.ensures.ran (walk_list 64 has (λ s. s.word) (λ s. s.from) c.ones.result) (λ x b q h. search (rules, tests)) in
-    let set : c.all.result ≡ list_all test (filter first (range_with_len 0 64)) = rw (c.ones.ensures, c.links_of.ensures) at told in
-    set ∙ list_filter first test (range_with_len 0 64) ∙ list_every _ 64
-    ∙ every_things (λ y. implies (first y) (test y)) k w.few (λ j h l. true_implies (first j) (test j) (λ t. absurd (omega (arith, link_below _ _ a.r a.x j c.requires.0 c.requires.3 l t))))
+returns c = walk_end _ _ _ c.loop-y.rest c.args.self.now.few c.loop-y.invariant (missing c.in_default.ensures)
