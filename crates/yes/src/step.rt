@@ -25,12 +25,12 @@ fn read_step(part: &[u8]) -> Step
     }
 }
 
-// Are the last three bytes of the part zero?
+// Are the last three bytes of the part zero? Here and in `numbers_fit` an `&` is faster than the branches of an `&&`.
 fn zeros_zero(part: &[u8]) -> bool
     requires { 8 ≤ length part.now }
     ensures { result ≡ zeros_in part.now }
 {
-    part[5..8] == [0, 0, 0]
+    (part[5] == 0) & (part[6] == 0) & (part[7] == 0)
 }
 
 // Is a used number below n, and an unused one zero?
@@ -44,7 +44,8 @@ fn number_fits(used: bool, y: u8, n: usize) -> bool
 fn numbers_fit(rule: Rule, s: Step, n: usize) -> bool
     ensures { result ≡ numbers_fit rule n s }
 {
-    (s.x as usize) < n && number_fits(1 < rule.uses, s.y, n) && number_fits(2 < rule.uses, s.z, n)
+    let low = (s.x as usize) < n;
+    low & (number_fits(1 < rule.uses, s.y, n) & number_fits(2 < rule.uses, s.z, n))
 }
 
 // Is the place that of a record that counts?
