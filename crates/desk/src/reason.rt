@@ -1,5 +1,5 @@
 // The module and the printed set for C, the marks in and out as 128 bytes.
-ghost use Rattle.std.specs.Prelude.{◌≡◌, cond, eqb, ◌/◌, ◌%◌, length, IsOk, is_ok};
+ghost use Rattle.std.specs.Prelude.{◌≡◌, cond, eqb, ◌/◌, ◌%◌, length};
 ghost use Rattle.desk.specs.Desk.{GivesModuleC, GivesSetC};
 ghost use Rattle.desk.specs.Inner.{PutFound};
 
