@@ -4,17 +4,15 @@ ghost use Rattle.bits.specs.Bit.{has};
 ghost use Rattle.bits.specs.Sets.{lowest, found_below, some};
 ghost use Rattle.no.specs.NoSheet.{row_at, forbidden};
 
-use pack::bytes::read_word;
+use pack::bytes::{part_at, read_word};
 
 // Row i of the sheet.
-#[tactic(auto, using(pack::proofs::Parts::cut), unfolding(crate::specs::NoSheet::row_at))]
+#[tactic(auto, unfolding(crate::specs::NoSheet::row_at))]
 pub fn row_at(sheet: &[u8], i: usize) -> u64
     requires { i < length sheet.now / 8 }
     ensures { result ≡ row_at sheet.now i }
 {
-    let at = i * 8;
-    let end = at + 8;
-    read_word(&sheet[at..end])
+    read_word(part_at(sheet, i))
 }
 
 // Does the word have a bit at or above `limit`?

@@ -1,12 +1,22 @@
 // Words in 8 bytes, the low byte first: read and written.
-ghost use Rattle.std.specs.Prelude.{◌≡◌, ◌+◌, ◌*◌, ◌≤◌, length};
-ghost use Rattle.pack.specs.Bytes.{word_in, word_bytes, words_in, words_bytes, marks_in};
+ghost use Rattle.std.specs.Prelude.{◌≡◌, ◌+◌, ◌*◌, ◌/◌, ◌<◌, ◌≤◌, length};
+ghost use Rattle.pack.specs.Bytes.{part, word_in, word_bytes, words_in, words_bytes, marks_in};
 
 // The number of two bytes, as a place.
 pub fn two_bytes(lo: u8, hi: u8) -> usize
     ensures { result ≡ lo + hi * 256 }
 {
     u16::from_le_bytes([lo, hi]) as usize
+}
+
+// The 8-byte part at an index, which starts at 8 times it.
+pub fn part_at(s: &[u8], i: usize) -> &[u8]
+    requires { i < length s.now / 8 }
+    ensures { result.now ≡ part s.now i }
+{
+    let at = i * 8;
+    let end = at + 8;
+    &s[at..end]
 }
 
 // The word of an 8-byte part.
@@ -34,9 +44,7 @@ pub fn read_marks(s: &[u8]) -> [u64; 16]
 {
     let mut words = [0u64; 16];
     for j in 0..16 {
-        let at = j * 8;
-        let end = at + 8;
-        words[j] = read_word(&s[at..end]);
+        words[j] = read_word(part_at(s, j));
     }
     words
 }

@@ -7,6 +7,7 @@ ghost use Rattle.yes.specs.Computed.{check_steps};
 ghost use Rattle.yes.specs.Answers.{yes_told, yes_error_told, GivesYes};
 
 use crate::step::check_step;
+use pack::bytes::part_at;
 use pack::check::Refusal;
 use pack::question::Question;
 use pack::taken::Taken;
@@ -60,9 +61,7 @@ fn check_steps(q: &Taken, sheet: &[u8]) -> Result<(), YesError>
     let mut tables = Tables::start(q.n);
     let steps = sheet.len() / 8;
     for i in 0..steps {
-        let at = i * 8;
-        let end = at + 8;
-        if !check_step(&asked, &sheet[at..end], &mut tables) {
+        if !check_step(&asked, part_at(sheet, i), &mut tables) {
             return Err(YesError::Step(i as u32));
         }
     }

@@ -3,7 +3,6 @@ use Rattle.std.proofs.Common.{◌≡◌, refl, arith, length-set}
 use Rattle.bits.specs.Lists.{listed}
 use Rattle.bits.proofs.ListLaws.{fill_on, fill_end}
 use Rattle.pack.specs.Bytes.{words_in}
-use Rattle.pack.proofs.Parts.{cut}
 use Rattle.pack.proofs.bytes.read_marks.Goals as goal
 
 pub loop-j-init : goal.loop-j-init
@@ -13,7 +12,7 @@ loop-j-init c = (refl, refl)
 pub loop-j-preserved : goal.loop-j-preserved
 loop-j-preserved c =
     let l = c.loop-j.invariant in
-    (simp length-set l.0, fill_on _ _ _ _ (omega arith) l.1 (rw cut at c.read_word.ensures))
+    (simp length-set l.0, fill_on _ _ _ _ (omega arith) l.1 (rw c.part_at.ensures at c.read_word.ensures))
 
 pub returns : goal.returns
 unfolding words_in

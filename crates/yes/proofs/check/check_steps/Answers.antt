@@ -2,7 +2,6 @@
 use mathlib.Core.Path.{refl}
 use native.Mathlib.Omega.{arith}
 use Rattle.pack.specs.Record.{record_count}
-use Rattle.pack.proofs.Parts.{cut}
 use Rattle.pack.proofs.RecordLaws.{lines_valid}
 use Rattle.pack.proofs.QuestionLaws.{Asked, asked}
 use Rattle.yes.proofs.YesLaws.{good_none, good_more, step_bad, goal_shown, goal_not_shown}
@@ -21,13 +20,13 @@ loop-i-init c =
 pub returns-then-not-check_step : goal.returns-then-not-check_step
 returns-then-not-check_step c =
     let same = c.asked-asked.ensures in
-    let step = rw (same.0, same.2, same.3, cut) at c.if-not-check_step.ensures in
+    let step = rw (same.0, same.2, same.3, c.part_at.ensures) at c.if-not-check_step.ensures in
     step_bad _ _ _ _ c.loop-i.invariant.1 (omega arith) step.good _ _ refl
 
 pub loop-i-preserved : goal.loop-i-preserved
 loop-i-preserved c =
     let same = c.asked-asked.ensures in
-    let step = rw (same.0, same.2, same.3, cut) at c.if-not-check_step.ensures in
+    let step = rw (same.0, same.2, same.3, c.part_at.ensures) at c.if-not-check_step.ensures in
     let q = (question (goal.at.loop-i-preserved c).Start).pack in
     (refl, good_more _ _ _ _ c.loop-i.invariant.1 (omega arith) step.good q.n_most q.m_most (lines_valid _ _ _ q.all) refl step.concepts step.links)
 
