@@ -35,7 +35,7 @@ module _ {A E : Type 0} (answer : A → ℕ × ℕ) (refusal : E → ℕ × ℕ)
   told_small (Ok x) = answers x
   told_small (Err why) = refusals why
 
-refusal_small : (why : Refusal) → refusal_number why < 256
+pub refusal_small : (why : Refusal) → refusal_number why < 256
 refusal_small Sizes = omega arith
 refusal_small Pack = omega arith
 refusal_small (Record i) = omega arith

@@ -36,7 +36,7 @@ module _ (s : List ℕ) (most : length s ≤ 8200) (some : 8 ≤ length s) where
       get_or-take 8 (drop (length s - 8) s) j 0 h ∙ get_or-drop (length s - 8) s j 0 ∙ ap (λ (i : ℕ). get_or s i 0) same
 
   -- by the bytes that must be zero
-  last_eight : input_of s ≡ cond (eqb (byte 8) 0 && eqb (byte 3) 0 && eqb (byte 2) 0 && eqb (byte 1) 0) (Ok (record { n = byte 7; m = byte 6; a = byte 5; b = byte 4; at = length s - 8 })) (Err Shape)
+  pub last_eight : input_of s ≡ cond (eqb (byte 8) 0 && eqb (byte 3) 0 && eqb (byte 2) 0 && eqb (byte 1) 0) (Ok (record { n = byte 7; m = byte 6; a = byte 5; b = byte 4; at = length s - 8 })) (Err Shape)
   unfolding input_of
   last_eight =
       rw (le-ltb 8200 (length s) most, le-ltb (length s) 8 some)

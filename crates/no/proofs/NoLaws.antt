@@ -40,7 +40,7 @@ pub rows_few : (m k : ℕ) → m ≤ 8 → k ≤ 64 → rows_of m k ≤ 576
 rows_few m k h l = omega (arith, rows_are m k, mul-le-mul_left m l, mul_comm m k)
 
 -- a length that is a multiple of 8 · (1 + m) is that of its things' rows
-whole_rows : (m : ℕ) (sheet : List ℕ) → length sheet % (8 * (1 + m)) ≡ 0 → length sheet ≡ rows_of m (things_by m sheet) * 8
+pub whole_rows : (m : ℕ) (sheet : List ℕ) → length sheet % (8 * (1 + m)) ≡ 0 → length sheet ≡ rows_of m (things_by m sheet) * 8
 whole_rows m sheet e =
     let k = things_by m sheet in
     let d : k * (8 * (1 + m)) + length sheet % (8 * (1 + m)) ≡ length sheet = div-add-mod' (length sheet) (8 * (1 + m)) in

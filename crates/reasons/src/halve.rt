@@ -12,7 +12,13 @@ use engine::verdict::goal_follows;
 use marks::change::cut_marks;
 use marks::look::next_marked;
 use pack::taken::Taken;
-use std::ops::Range;
+
+// Places from `from` on and below `to`.
+#[derive(Clone, Copy, Debug, PartialEq, Eq)]
+pub struct Range {
+    pub from: usize,
+    pub to: usize,
+}
 
 // A question that is taken, with some marks less.
 pub(crate) fn with_marks<'a, 'b: 'a>(q: &Taken<'b>, marks: &'a [u64; 16]) -> Taken<'a>
@@ -32,10 +38,10 @@ pub(crate) fn with_marks<'a, 'b: 'a>(q: &Taken<'b>, marks: &'a [u64; 16]) -> Tak
 }
 
 // Does the goal follow from the marked places but those of a range?
-fn goes_without(q: &Taken, range: Range<usize>) -> bool
-    ensures { IsTrue result ↔ Follows (lines_of q.now.pack.now) (cut_out (counted q.now.pack.now q.now.marks.now) range.start range.end) q.now.a q.now.b }
+fn goes_without(q: &Taken, range: Range) -> bool
+    ensures { IsTrue result ↔ Follows (lines_of q.now.pack.now) (cut_out (counted q.now.pack.now q.now.marks.now) range.from range.to) q.now.a q.now.b }
 {
-    let trial = cut_marks(q.marks, range.start, range.end);
+    let trial = cut_marks(q.marks, range.from, range.to);
     goal_follows(&with_marks(q, &trial))
 }
 
@@ -52,13 +58,13 @@ fn next_past(marks: &[u64], at: usize, end: usize) -> Option<usize>
 }
 
 // Of the marked places inside a range the one halfway up: it goes on by one while another goes on by two.
-fn halfway(marks: &[u64], range: &Range<usize>) -> Option<usize>
-    requires { (range.now.start < range.now.end) × (range.now.end ≤ 1024) }
-    ensures some { IfSome result (λ k. (range.now.start < k) × (k < range.now.end)) }
-    ensures none { IfNone result ((j : ℕ) → range.now.start < j → j < range.now.end → marked marks.now j ≡ false) }
+fn halfway(marks: &[u64], range: &Range) -> Option<usize>
+    requires { (range.now.from < range.now.to) × (range.now.to ≤ 1024) }
+    ensures some { IfSome result (λ k. (range.now.from < k) × (k < range.now.to)) }
+    ensures none { IfNone result ((j : ℕ) → range.now.from < j → j < range.now.to → marked marks.now j ≡ false) }
 {
-    let end = range.end;
-    let mut half = next_past(marks, range.start, end)?;
+    let end = range.to;
+    let mut half = next_past(marks, range.from, end)?;
     let mut whole = half;
     while let Some(next) = next_past(marks, whole, end) {
         whole = match next_past(marks, next, end) {
@@ -75,18 +81,22 @@ fn next_kept(q: &Taken, i: usize) -> Option<usize>
     requires { (i < 1024) × Follows (lines_of q.now.pack.now) (counted q.now.pack.now q.now.marks.now) q.now.a q.now.b }
     ensures { Next (λ P. Follows (lines_of q.now.pack.now) P q.now.a q.now.b) (counted q.now.pack.now q.now.marks.now) i (unwrap_or result 1024) }
 {
-    if goes_without(q, i..1024) {
+    let mut range = Range { from: i, to: 1024 };
+    if goes_without(q, range) {
         return None;
     }
-    let mut range = i..1024;
     while let Some(middle) = halfway(q.marks, &range) {
-        if goes_without(q, i..middle) {
-            range.start = middle;
+        let lower = Range {
+            from: i,
+            to: middle,
+        };
+        if goes_without(q, lower) {
+            range.from = middle;
         } else {
-            range.end = middle;
+            range.to = middle;
         }
     }
-    Some(range.start)
+    Some(range.from)
 }
 
 // Of the marks of a question whose goal follows, those of the picked set.

@@ -5,6 +5,6 @@ mod files;
 pub mod halve;
 pub mod module;
 pub mod names;
-mod out;
+pub mod out;
 pub mod reach;
 pub mod set;

@@ -11,7 +11,7 @@ use pack::question::Question;
 use pack::taken::Taken;
 
 // The marks of the module for goal concept a.
-pub(crate) fn module_of(q: &Taken) -> [u64; 16]
+pub fn module_of(q: &Taken) -> [u64; 16]
     ensures { result ≡ module_marks q.now.n q.now.m q.now.pack.now q.now.marks.now q.now.a }
 {
     reached_records(q.pack, q.marks, q.a as u8)

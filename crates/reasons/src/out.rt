@@ -10,7 +10,7 @@ use pack::question::Question;
 use pack::taken::Taken;
 
 // The question, taken, where so many words are lent for the out marks: unless they are 16, MARKS in its place.
-pub(crate) fn take_reason<'a>(q: &Question<'a>, words: usize) -> Result<Taken<'a>, Refusal>
+pub fn take_reason<'a>(q: &Question<'a>, words: usize) -> Result<Taken<'a>, Refusal>
     ensures same { IfOk result (λ t. (t.n ≡ q.now.n) × (t.m ≡ q.now.m)
         × (t.pack.now ≡ q.now.pack.now) × (t.marks.now ≡ q.now.marks.now)
         × (t.a ≡ q.now.a) × (t.b ≡ q.now.b) × (words ≡ 16)) }

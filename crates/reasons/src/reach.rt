@@ -7,7 +7,8 @@ ghost use Rattle.reasons.specs.Reach.{left_names, IsModule};
 ghost use Rattle.reasons.specs.Names.{name_in, with_line, waits_for, IsFiled, Walked};
 
 use crate::files::Files;
-use crate::names::{Name, Names};
+use crate::names::Name;
+pub use crate::names::Names;
 use marks::look::places;
 use pack::line::{Line, line_at};
 
@@ -39,9 +40,10 @@ impl Reached {
     {
         let records = pack.len() / 8;
         for i in places(marks) {
-            if i < records {
-                self.take(line_at(pack, i), i);
+            if records <= i {
+                return;
             }
+            self.take(line_at(pack, i), i);
         }
     }
 }

@@ -1,5 +1,9 @@
 // The printed set: numbers 1 to 7 of document 01's table, else the set in the out marks and the number of its records.
 ghost use Rattle.std.specs.Prelude.{◌≡◌, length};
+ghost use Rattle.pack.specs.Question.{counted};
+ghost use Rattle.pack.specs.Record.{lines_of};
+ghost use Rattle.pack.specs.World.{Follows};
+ghost use Rattle.reasons.specs.Computed.{set_marks};
 ghost use Rattle.reasons.specs.Set.{set_error_told, set_told, GivesSet};
 ghost use Rattle.reasons.specs.Inner.{SetTaken};
 
@@ -49,8 +53,20 @@ impl Told for SetError {
     }
 }
 
-// The set where the goal follows, picked from the goal's module; else 7 and the out marks as they were. 6 is never: the passes add
-// 36,800 facts at most.
+// The marks of the printed set of a goal that follows: picked from its module. For A equal to B no record is needed, and none is
+// looked at.
+fn set_of(q: &Taken) -> [u64; 16]
+    requires { Follows (lines_of q.now.pack.now) (counted q.now.pack.now q.now.marks.now) q.now.a q.now.b }
+    ensures { result ≡ set_marks q.now.n q.now.m q.now.pack.now q.now.marks.now q.now.a q.now.b }
+{
+    if q.a == q.b {
+        return [0; 16];
+    }
+    let inside = module_of(q);
+    pick(&with_marks(q, &inside))
+}
+
+// The set where the goal follows; else 7 and the out marks as they were. 6 is never: the passes add 36,800 facts at most.
 fn set_taken(q: &Taken, out: &mut [u64]) -> Result<u32, SetError>
     requires { length out.old ≡ 16 }
     ensures { SetTaken q.now.n q.now.m q.now.pack.now q.now.marks.now q.now.a q.now.b out.old out.new result }
@@ -58,9 +74,7 @@ fn set_taken(q: &Taken, out: &mut [u64]) -> Result<u32, SetError>
     if !goal_follows(q) {
         return Err(SetError::NotFollows);
     }
-    let inside = module_of(q);
-    let words = pick(&with_marks(q, &inside));
-    Ok(give(&words, out))
+    Ok(give(&set_of(q), out))
 }
 
 // The printed set, for any input and any lent out marks.

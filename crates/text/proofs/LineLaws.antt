@@ -21,7 +21,7 @@ use Rattle.text.proofs.PlaceLaws.{places_most, places_same}
 
 -- a count of places has at most 4 digits
 pub count_digits : (P : ℕ → Bool) {n : ℕ} → n ≡ count_to P 1024 → length (decimal n) ≤ 4
-count_digits P {n} e = decimal_most 3 n (omega (arith, count_le P 1024)) (omega (arith, count_le P 1024))
+count_digits P {n} e = decimal_most 3 n (omega (arith, count_le P 1024))
 
 module _ (word : List ℕ) where
   pub number_line_length : (k : ℕ) → length (number_line word k) ≡ length word + length (decimal k) + 1
@@ -34,7 +34,7 @@ module _ (word : List ℕ) where
 
   -- a number of 32 bits has at most 10 digits, a count of places at most 4
   pub number_line_most : (k : ℕ) → k < 2 ^ 32 → length (number_line word k) ≤ length word + 11
-  number_line_most k h = omega (arith, number_line_length k, decimal_most 9 k (omega arith) (omega arith))
+  number_line_most k h = omega (arith, number_line_length k, decimal_most 9 k (omega arith))
 
   pub list_line_most : (P : ℕ → Bool) → length (list_line word P) ≤ length word + 4016
   list_line_most P = omega (arith, list_line_length P, count_digits P refl, places_most P)

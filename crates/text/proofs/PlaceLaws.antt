@@ -46,15 +46,15 @@ module _ (P : ℕ → Bool) where
   places_grow i (suc c) = omega (arith, places_grow i c, (places_step (i + c)).0, ap (λ (k : ℕ). length (places P k)) (add-suc i c ∙ sym (add-one (i + c))))
 
   -- AT MOST 4,010 BYTES: 10 places of two bytes with the space, 90 of three, 900 of four and 24 of five
-  places_more : (d i c : ℕ) → i + c ≤ 1024 → ((j : ℕ) → j < i + c → j < 10 ^ suc d) → length (places P (i + c)) ≤ length (places P i) + c * (d + 2)
-  places_more d i zero l h = omega (arith, ap (λ (k : ℕ). length (places P k)) (add-zero i), zero-mul (d + 2))
-  places_more d i (suc c) l h =
+  places_more : (d i c : ℕ) → ((j : ℕ) → j < i + c → j < 10 ^ suc d) → length (places P (i + c)) ≤ length (places P i) + c * (d + 2)
+  places_more d i zero h = omega (arith, ap (λ (k : ℕ). length (places P k)) (add-zero i), zero-mul (d + 2))
+  places_more d i (suc c) h =
       omega (
         arith,
         ap (λ (k : ℕ). length (places P k)) (add-suc i c ∙ sym (add-one (i + c))),
         (places_step (i + c)).1,
-        decimal_most d (i + c) (omega arith) (h (i + c) (omega arith)),
-        places_more d i c (omega arith) (λ j g. h j (omega arith)),
+        decimal_most d (i + c) (h (i + c) (omega arith)),
+        places_more d i c (λ j l. h j (omega arith)),
         suc-mul c (d + 2),
       )
 
@@ -67,10 +67,10 @@ module _ (P : ℕ → Bool) where
       omega (
         arith,
         places_none,
-        places_more 0 0 10 (omega arith) (λ j l. omega arith),
-        places_more 1 10 90 (omega arith) (λ j l. omega arith),
-        places_more 2 100 900 (omega arith) (λ j l. omega arith),
-        places_more 3 1000 24 (omega arith) (λ j l. omega arith),
+        places_more 0 0 10 (λ j l. omega arith),
+        places_more 1 10 90 (λ j l. omega arith),
+        places_more 2 100 900 (λ j l. omega arith),
+        places_more 3 1000 24 (λ j l. omega arith),
       )
 
 -- sets with the same places below c have the same list

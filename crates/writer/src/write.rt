@@ -72,20 +72,27 @@ fn write_yes(q: &Taken, steps: usize, sheet: &mut [u8]) -> Result<Sheet, SheetEr
     Ok(Sheet::Follows(written as u32))
 }
 
-// The sheet of a question that is taken: nothing is to be shown where its concepts are the same. TOO LONG is never the answer: no
-// question adds so many facts.
-fn write_taken(q: &Taken, sheet: &mut [u8]) -> Result<Sheet, SheetError>
+// The sheet of a question that is taken and whose concepts differ. TOO LONG is never the answer: no question adds so many facts.
+fn write_settled(q: &Taken, sheet: &mut [u8]) -> Result<Sheet, SheetError>
+    requires { q.now.a ≡ q.now.b → ⊥ }
     ensures { (result ≡ ask_sheet q.now.n q.now.m q.now.pack.now q.now.marks.now q.now.a q.now.b sheet.old) × (sheet.new ≡ written_sheet q.now.n q.now.m q.now.pack.now q.now.marks.now q.now.a q.now.b sheet.old) }
 {
-    if q.a == q.b {
-        return Ok(Sheet::Follows(0));
-    }
     let end = settle(q, &mut []);
     let goal = Goal::of(q);
     if end.tables.holds_in(goal.a, goal.b) {
         return write_yes(q, end.count, sheet);
     }
     write_no(q, &end.tables, sheet)
+}
+
+// The sheet of a question that is taken: nothing is to be shown where its concepts are the same, and no room for tables is cleared.
+fn write_taken(q: &Taken, sheet: &mut [u8]) -> Result<Sheet, SheetError>
+    ensures { (result ≡ ask_sheet q.now.n q.now.m q.now.pack.now q.now.marks.now q.now.a q.now.b sheet.old) × (sheet.new ≡ written_sheet q.now.n q.now.m q.now.pack.now q.now.marks.now q.now.a q.now.b sheet.old) }
+{
+    if q.a == q.b {
+        return Ok(Sheet::Follows(0));
+    }
+    write_settled(q, sheet)
 }
 
 // The sheet writer, for any input and any lent sheet.

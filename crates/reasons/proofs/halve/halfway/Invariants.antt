@@ -6,7 +6,7 @@ use Rattle.marks.specs.Marks.{marked}
 use Rattle.reasons.proofs.halve.halfway.Given as goal
 
 abbrev pub invariant-loop-next : goal.invariant-loop-next
-invariant-loop-next l = (l.range.start < l.half) × (l.half ≤ l.whole) × (l.whole < l.end) × (marked l.marks l.whole ≡ true)
+invariant-loop-next l = (l.range.from < l.half) × (l.half ≤ l.whole) × (l.whole < l.end) × (marked l.marks l.whole ≡ true)
 
 abbrev pub decreases-loop-next : goal.decreases-loop-next
 decreases-loop-next l = l.end - l.whole

@@ -7,7 +7,7 @@ use Rattle.reasons.specs.Inner.{Between}
 use Rattle.reasons.proofs.halve.next_kept.Given as goal
 
 abbrev pub invariant-loop-middle : goal.invariant-loop-middle
-invariant-loop-middle l = Between (λ P. Follows (lines_of l.q.pack.now) P l.q.a l.q.b) (counted l.q.pack.now l.q.marks.now) l.i l.range.start l.range.end
+invariant-loop-middle l = Between (λ P. Follows (lines_of l.q.pack.now) P l.q.a l.q.b) (counted l.q.pack.now l.q.marks.now) l.i l.range.from l.range.to
 
 abbrev pub decreases-loop-middle : goal.decreases-loop-middle
-decreases-loop-middle l = l.range.end - l.range.start
+decreases-loop-middle l = l.range.to - l.range.from

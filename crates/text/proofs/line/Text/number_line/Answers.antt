@@ -6,10 +6,10 @@ use Rattle.text.proofs.DigitLaws.{decimal_most}
 use Rattle.text.proofs.line.Text.number_line.Goals as goal
 
 pub push_number-requires : goal.push_number-requires
-push_number-requires c = omega (arith, decimal_most 9 c.args.k (omega arith) (omega arith))
+push_number-requires c = omega (arith, decimal_most 9 c.args.k (omega arith))
 
 pub push_word-requires-2 : goal.push_word-requires-2
-push_word-requires-2 c = omega (arith, decimal_most 9 c.args.k (omega arith) (omega arith))
+push_word-requires-2 c = omega (arith, decimal_most 9 c.args.k (omega arith))
 
 pub returns : goal.returns
 unfolding number_line
